@@ -1,0 +1,54 @@
+// Why a call is refused: each refusal goes by a number that never changes.
+ghost use Rattle.refusals.specs.Numbers.{number as refusal-number};
+ghost use mathlib.Core.Path.{_≡_};
+use std::fmt;
+
+/// Why a call is refused. A refused call changes nothing.
+#[derive(Clone, Copy, PartialEq, Eq, Debug)]
+pub enum Refusal {
+    /// 1: the bits per axis are outside 1 to 4.
+    BitsPerAxis,
+    /// 2: the message length is outside 1 to 4,090 bits.
+    MessageLength,
+    /// 3: the block length is outside 1 to 64 cells.
+    BlockLength,
+    /// 4: the interleaver takes no such block.
+    BlockNotTaken,
+    /// 12: the message buffer is shorter than the message.
+    MessageBuffer,
+    /// 13: a byte of the message is neither 0 nor 1.
+    MessageBit,
+    /// 14: the cell buffer is shorter than the frame.
+    CellBuffer,
+}
+
+impl Refusal {
+    /// The number of the refusal.
+    pub fn number(self) -> u8
+        ensures { λ r. ⌜ r ≡ refusal-number self ⌝ }
+    {
+        match self {
+            Refusal::BitsPerAxis => 1,
+            Refusal::MessageLength => 2,
+            Refusal::BlockLength => 3,
+            Refusal::BlockNotTaken => 4,
+            Refusal::MessageBuffer => 12,
+            Refusal::MessageBit => 13,
+            Refusal::CellBuffer => 14,
+        }
+    }
+}
+
+pub impl fmt::Display for Refusal as RefusalDisplay {
+    fn fmt<W: fmt::Write>(&self, f: &mut fmt::Formatter<W>) -> fmt::Result {
+        match self {
+            Refusal::BitsPerAxis => f.write_str("bits per axis outside 1 to 4"),
+            Refusal::MessageLength => f.write_str("message length outside 1 to 4090 bits"),
+            Refusal::BlockLength => f.write_str("block length outside 1 to 64 cells"),
+            Refusal::BlockNotTaken => f.write_str("the interleaver takes no such block"),
+            Refusal::MessageBuffer => f.write_str("message buffer shorter than the message"),
+            Refusal::MessageBit => f.write_str("a message byte is neither 0 nor 1"),
+            Refusal::CellBuffer => f.write_str("cell buffer shorter than the frame"),
+        }
+    }
+}
