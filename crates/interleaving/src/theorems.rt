@@ -1,0 +1,11 @@
+// What is shown of every interleaver, on the contract of a function that computes nothing.
+ghost use Rattle.interleaving.specs.Theorems.{Every-column-count, Every-interleaver, Two-step-takes};
+
+/// Place and position are inverse bijections on every block that is taken, and the two steps are so for every number of columns.
+pub fn interleavers_are_bijections() -> u8
+    ensures every { λ _. ⌜ Every-interleaver ⌝ }
+    ensures steps { λ _. ⌜ Every-column-count ⌝ }
+    ensures two_step { λ _. ⌜ Two-step-takes ⌝ }
+{
+    0
+}
