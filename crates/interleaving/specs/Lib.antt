@@ -1,4 +1,5 @@
 pub mod Interleaving
+pub mod Blocks
 pub mod Columns
 pub mod StepPlaces
 pub mod StepLaws

@@ -19,3 +19,4 @@ pub use steps::FirstStepInterleaver;
 pub use steps::SecondStep;
 pub use steps::SecondStepInterleaver;
 pub use theorems::interleavers_are_bijections;
+pub use theorems::positions_are_carried_once;
