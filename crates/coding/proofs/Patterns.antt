@@ -3,7 +3,7 @@ use mathlib.Core.Path.{_≡_, sym, ap, _∙_}
 use mathlib.Core.Bool.{Bool, true, false, cond}
 use mathlib.Core.List.{List, [], _∷_, _++_}
 use mathlib.Core.Logic.{inl, inr}
-use Prim.Native.Nat.{ℕ, zero, suc, _+_, _*_, _/_, _%_, _<_}
+use Prim.Native.Nat.{ℕ, zero, suc, _+_, _*_, _/_, _%_, _≤_, _<_}
 use native.Mathlib.Nat.{div-add-mod}
 use native.Mathlib.Omega.{arith}
 use lib.ListN.{length, getD}
@@ -76,3 +76,13 @@ sent-is ThreeQuarters (suc n) =
     omega (arith, over (4 * n + 2) 3 (4 * q + 3) 1 (omega arith) (omega arith), over (4 * suc n + 2) 3 (4 * q + 4) 2 (omega arith) (omega arith)) in
     let step : P (n % 3) = by-three P n zeroth oneth twoth in
     omega (arith, sent-is ThreeQuarters n, step)
+
+at-most-one : (b : Bool) → cond b 1 0 ≤ 1
+at-most-one true = omega arith
+at-most-one false = omega arith
+
+-- a step sends at most two bits
+pub sent-most : (rate : Rate) (n : ℕ) → sent-before rate n ≤ 2 * n
+unfolding sent-before
+sent-most rate zero = omega arith
+sent-most rate (suc n) = omega (arith, sent-most rate n, at-most-one (sends-first rate n), at-most-one (sends-second rate n))

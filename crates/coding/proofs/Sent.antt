@@ -2,7 +2,7 @@
 use mathlib.Core.Path.{_≡_, refl, sym, ap, subst, _∙_}
 use mathlib.Core.Bool.{Bool, true, false, cond}
 use mathlib.Core.List.{List, [], _∷_, _++_}
-use Prim.Native.Nat.{ℕ, zero, suc, _+_, _<_}
+use Prim.Native.Nat.{ℕ, zero, suc, _+_, _≤_, _<_}
 use native.Mathlib.Omega.{arith}
 use lib.ListN.{length, getD, length-append}
 use Rattle.std.specs.shelf.Lists.{All}
@@ -39,6 +39,11 @@ pub length-tail : (C : Code) (T : Tail) (s : ℕ) → length (tail-inputs C T s)
 length-tail C unclosed s = refl
 length-tail C (closed-by E) s = length-closing C E (E .memory) s
 
+-- a lawful end appends at most six inputs
+pub tail-short : (C : Code) (T : Tail) → Tail-laws C T → closing-steps T ≤ 6
+tail-short C unclosed laws = omega arith
+tail-short C (closed-by E) laws = laws .short
+
 pub all-bits : (n : ℕ) (bs : List ℕ) → Inputs n bs → All-bits bs
 all-bits n bs i = all-from-getD (λ b. b < 2) bs 0 (λ k l. i .bits k (omega (arith, i .size)))
 
@@ -70,6 +75,9 @@ module _ (Q : Coding) where
   sent-from-bits k s (b ∷ bs) l a =
       all-append (λ x. x < 2) (sent-at Q k s b) (sent-from Q (suc k) (code-of Q .next s b) bs) (sent-at-bits k s b l (a .0))
       (sent-from-bits (suc k) (code-of Q .next s b) bs (Q .trellis .lawful .stays s b l (a .0)) (a .1))
+
+  pub sent-bits-all : Tail-laws (code-of Q) (Q .tail) → (ms : List ℕ) → All-bits ms → All-bits (sent-bits Q ms)
+  sent-bits-all laws ms a = sent-from-bits 0 0 (inputs-of Q ms) (Q .trellis .lawful .some) (inputs-bits laws ms a)
 
   if-sent-size : (p : Bool) (c : ℕ) → length (if-sent p c) ≡ cond p 1 0
   if-sent-size true c = refl
@@ -105,5 +113,5 @@ pub messages-well-sent : Messages-well-sent
 messages-well-sent Q K ms laws i =
     record {
       as-many = sent-bits-size Q ms ∙ ap (λ n. sent-before (Q .rate) (steps-for Q n)) (i .size);
-      bits = λ j l. all-getD (λ b. b < 2) (sent-bits Q ms) j 0 l (sent-from-bits Q 0 0 (inputs-of Q ms) (Q .trellis .lawful .some) (inputs-bits Q laws ms (all-bits K ms i)));
+      bits = λ j l. all-getD (λ b. b < 2) (sent-bits Q ms) j 0 l (sent-bits-all Q laws ms (all-bits K ms i));
     }

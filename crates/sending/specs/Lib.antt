@@ -1,0 +1,5 @@
+pub mod Links
+pub mod Sizes
+pub mod Cells
+pub mod Sends
+pub mod Labelling
