@@ -1,0 +1,9 @@
+// The worked numbers, gathered under one theorem over the definitions that the contracts use.
+ghost use Rattle.worked.specs.Worked.{Worked};
+
+/// The worked numbers hold of the definitions.
+pub fn worked_numbers() -> u8
+    ensures { λ _. ⌜ Worked ⌝ }
+{
+    0
+}
