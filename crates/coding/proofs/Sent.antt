@@ -27,7 +27,7 @@ closing-bits : (C : Code) (E : Closer) → Code-laws C → Closer-laws C E → (
 closing-bits C E c e zero s l = tt
 closing-bits C E c e (suc n) s l = (e .bit s l, closing-bits C E c e n (C .next s (E .close s)) (c .stays s (E .close s) l (e .bit s l)))
 
-length-closing : (C : Code) (E : Closer) (n s : ℕ) → length (closing C E n s) ≡ n
+pub length-closing : (C : Code) (E : Closer) (n s : ℕ) → length (closing C E n s) ≡ n
 length-closing C E zero s = refl
 length-closing C E (suc n) s = ap suc (length-closing C E n (C .next s (E .close s)))
 
