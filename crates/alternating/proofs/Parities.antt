@@ -42,7 +42,7 @@ pub cannot-be-closed : Cannot-be-closed
 cannot-be-closed E laws =
     let n = E .memory in
     let even : 0 ≡ (0 + n) % 2 =
-        ap (λ x. x % 2) (sym (laws .home 0 (omega arith))) ∙ ends-parity 0 (closing alternating E n 0) ∙ ap (λ x. (0 + x) % 2) (length-closing alternating E n 0) in
+    ap (λ x. x % 2) (sym (laws .home 0 (omega arith))) ∙ ends-parity 0 (closing alternating E n 0) ∙ ap (λ x. (0 + x) % 2) (length-closing alternating E n 0) in
     let odd : 0 ≡ (1 + n) % 2 =
-        ap (λ x. x % 2) (sym (laws .home 1 (omega arith))) ∙ ends-parity 1 (closing alternating E n 1) ∙ ap (λ x. (1 + x) % 2) (length-closing alternating E n 1) in
+    ap (λ x. x % 2) (sym (laws .home 1 (omega arith))) ∙ ends-parity 1 (closing alternating E n 1) ∙ ap (λ x. (1 + x) % 2) (length-closing alternating E n 1) in
     omega (arith, div-add-mod (0 + n) 2, div-add-mod (1 + n) 2)

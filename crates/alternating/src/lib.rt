@@ -21,7 +21,12 @@ pub impl Code for Alternating as AlternatingCode {
     fn entering(&self, state: u8) -> (u8, u8, u8, u8) {
         let lower = 1 - state % 2;
         let higher = 3 - state % 2;
-        (lower, (state + 3 - lower) % 4 / 2, higher, (state + 3 - higher) % 4 / 2)
+        (
+            lower,
+            (state + 3 - lower) % 4 / 2,
+            higher,
+            (state + 3 - higher) % 4 / 2,
+        )
     }
 }
 

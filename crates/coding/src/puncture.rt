@@ -1,6 +1,9 @@
 // Puncturing: which code bits of a step are sent.
 ghost use Rattle.coding.specs.Letters.{rate-numbered};
-ghost use Rattle.coding.specs.Puncturing.{sends-first, sends-second, sent-before};
+ghost use Rattle.coding.specs.Puncturing.{sends-first, sends-second, sent-before, sent-in-all};
+ghost use Prim.Native.Nat.{_%_, _<_, _≤_};
+ghost use lib.ListN.{getD};
+ghost use mathlib.Core.Bool.{false};
 ghost use mathlib.Core.Path.{_≡_};
 
 /// The code rate after puncturing.
@@ -50,19 +53,29 @@ impl Rate {
     }
 }
 
+/// A row of the table at a step: it repeats after its period.
+fn row_at(row: [bool; 3], period: usize, step: usize) -> bool
+    requires { ⌜ 0 < period ⌝ ∗ ⌜ period ≤ 3 ⌝ }
+    ensures { λ r. ⌜ r ≡ getD row (step % period) false ⌝ }
+{
+    row[step % period]
+}
+
 /// Whether the first, and the second, code bit of a step is sent.
 pub fn sent_code_bits(rate: Rate, step: usize) -> (bool, bool)
     ensures first { λ r. ⌜ r .0 ≡ sends-first rate step ⌝ }
     ensures second { λ r. ⌜ r .1 ≡ sends-second rate step ⌝ }
 {
     let pattern = &PATTERNS[rate as usize];
-    let at = step % pattern.period;
-    (pattern.first[at], pattern.second[at])
+    (
+        row_at(pattern.first, pattern.period, step),
+        row_at(pattern.second, pattern.period, step),
+    )
 }
 
-/// How many bits so many steps send.
-pub fn sent_in(rate: Rate, steps: u32) -> u64
-    ensures { λ r. ⌜ r ≡ sent-before rate steps ⌝ }
+/// How many bits so many steps send, without counting step by step.
+fn sent_in_all(rate: Rate, steps: u32) -> u64
+    ensures { λ r. ⌜ r ≡ sent-in-all rate steps ⌝ }
 {
     let n = steps as u64;
     match rate {
@@ -70,4 +83,11 @@ pub fn sent_in(rate: Rate, steps: u32) -> u64
         Rate::TwoThirds => (3 * n + 1) / 2,
         Rate::ThreeQuarters => (4 * n + 2) / 3,
     }
+}
+
+/// How many bits so many steps send.
+pub fn sent_in(rate: Rate, steps: u32) -> u64
+    ensures { λ r. ⌜ r ≡ sent-before rate steps ⌝ }
+{
+    sent_in_all(rate, steps)
 }

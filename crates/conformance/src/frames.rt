@@ -52,7 +52,9 @@ pub fn cells_of(heap: Global, frame: Frame, digits: &[u8]) -> Result<Vec<QamCell
     let message = message_of(heap, digits)?;
     let plan = Plan {
         bits_per_axis: frame.bits,
-        message_bits: u16::try_from(message.len()).ok().ok_or("too long a message")?,
+        message_bits: u16::try_from(message.len())
+            .ok()
+            .ok_or("too long a message")?,
         block_cells: frame.block,
         rate: frame.rate,
         end: frame.end,
@@ -61,9 +63,19 @@ pub fn cells_of(heap: Global, frame: Frame, digits: &[u8]) -> Result<Vec<QamCell
         Ok(size) => size,
         Err(refusal) => return Err(refused(heap, refusal)?),
     };
-    let blank = QamCell { in_phase: 0, quadrature: 0, weight: 0 };
+    let blank = QamCell {
+        in_phase: 0,
+        quadrature: 0,
+        weight: 0,
+    };
     let mut cells = vec![in heap; blank; size.cells]?;
-    match send(plan, frame.code, frame.interleaver, message.as_slice(), cells.as_mut_slice()) {
+    match send(
+        plan,
+        frame.code,
+        frame.interleaver,
+        message.as_slice(),
+        cells.as_mut_slice(),
+    ) {
         Ok(()) => Ok(cells),
         Err(refusal) => Err(refused(heap, refusal)?),
     }
@@ -100,8 +112,12 @@ pub fn weighed(cells: &[QamCell]) -> i64 {
     let mut place = 1i64;
     for cell in cells {
         let one = i64::from(cell.in_phase).wrapping_mul(place);
-        let two = i64::from(cell.quadrature).wrapping_mul(3).wrapping_mul(place);
-        sum = sum.wrapping_add(one).wrapping_add(two).wrapping_add(i64::from(cell.weight));
+        let two = i64::from(cell.quadrature)
+            .wrapping_mul(3)
+            .wrapping_mul(place);
+        sum = sum.wrapping_add(one)
+            .wrapping_add(two)
+            .wrapping_add(i64::from(cell.weight));
         place = place.wrapping_add(1);
     }
     sum
@@ -137,22 +153,54 @@ fn report(rt: &LibcRuntime, frame: Frame) -> Result<(), AnyError> {
     let block = frame.block;
     let count = cells.len();
     let sum = weighed(cells.as_slice());
-    println!(rt, "frame {bits} {block} {rate} {code} {end} {interleaver}: {count} cells, sum {sum}")?;
+    println!(
+        rt,
+        "frame {bits} {block} {rate} {code} {end} {interleaver}: {count} cells, sum {sum}"
+    )?;
     Ok(())
 }
 
 fn every_interleaver(rt: &LibcRuntime, frame: Frame) -> Result<(), AnyError> {
     for bits in 1..5 {
-        report(rt, Frame { bits, block: 1, ..frame })?;
-        report(rt, Frame { bits, block: 64, ..frame })?;
-        report(rt, Frame { bits, block: 8, interleaver: InterleaverKind::TwoStep, ..frame })?;
+        report(
+            rt,
+            Frame {
+                bits,
+                block: 1,
+                ..frame
+            },
+        )?;
+        report(
+            rt,
+            Frame {
+                bits,
+                block: 64,
+                ..frame
+            },
+        )?;
+        report(
+            rt,
+            Frame {
+                bits,
+                block: 8,
+                interleaver: InterleaverKind::TwoStep,
+                ..frame
+            },
+        )?;
     }
     Ok(())
 }
 
 fn every_rate(rt: &LibcRuntime, code: CodeKind, end: End) -> Result<(), AnyError> {
     for rate in [Rate::Half, Rate::TwoThirds, Rate::ThreeQuarters] {
-        let frame = Frame { bits: 1, block: 1, rate, code, end, interleaver: InterleaverKind::Straight };
+        let frame = Frame {
+            bits: 1,
+            block: 1,
+            rate,
+            code,
+            end,
+            interleaver: InterleaverKind::Straight,
+        };
         every_interleaver(rt, frame)?;
     }
     Ok(())
@@ -161,10 +209,26 @@ fn every_rate(rt: &LibcRuntime, code: CodeKind, end: End) -> Result<(), AnyError
 /// A code that is not closable: its plan names no end, and the frame is open.
 fn without_end(rt: &LibcRuntime) -> Result<(), AnyError> {
     let message = message_of(rt.alloc(), MESSAGE)?;
-    let plan = Plan { bits_per_axis: 2, message_bits: 19, block_cells: 4, rate: Rate::TwoThirds, end: NoEnd };
-    let blank = QamCell { in_phase: 0, quadrature: 0, weight: 0 };
+    let plan = Plan {
+        bits_per_axis: 2,
+        message_bits: 19,
+        block_cells: 4,
+        rate: Rate::TwoThirds,
+        end: NoEnd,
+    };
+    let blank = QamCell {
+        in_phase: 0,
+        quadrature: 0,
+        weight: 0,
+    };
     let mut cells = vec![in rt.alloc(); blank; 8]?;
-    match send(plan, Alternating, Straight, message.as_slice(), cells.as_mut_slice()) {
+    match send(
+        plan,
+        Alternating,
+        Straight,
+        message.as_slice(),
+        cells.as_mut_slice(),
+    ) {
         Ok(()) => {
             let sum = weighed(cells.as_slice());
             println!(rt, "frame 2 4 2/3 alternating: 8 cells, sum {sum}")?;

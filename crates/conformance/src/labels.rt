@@ -7,7 +7,11 @@ use std::error::AnyError;
 fn digits(rt: &LibcRuntime, m: u8, number: u8) -> Result<String, AnyError> {
     let mut text = String::new(rt.alloc());
     for k in 1..=m {
-        text.push(if label_bit(m, k, number) == 1 { '1' } else { '0' })?;
+        text.push(if label_bit(m, k, number) == 1 {
+            '1'
+        } else {
+            '0'
+        })?;
     }
     Ok(text)
 }

@@ -27,7 +27,11 @@ struct Case {
 
 const NOWHERE: usize = 100_000;
 
-const MARK: QamCell = QamCell { in_phase: 7, quadrature: 7, weight: 7 };
+const MARK: QamCell = QamCell {
+    in_phase: 7,
+    quadrature: 7,
+    weight: 7,
+};
 
 /// How many cells are not the mark that stood there before.
 fn written(cells: &[QamCell]) -> usize {
@@ -59,7 +63,13 @@ fn attempt(rt: &LibcRuntime, case: Case) -> Result<(u8, usize), AnyError> {
         rate: Rate::Half,
         end: End::Closed,
     };
-    let number = match send(plan, Recursive, case.interleaver, message.as_slice(), cells.as_mut_slice()) {
+    let number = match send(
+        plan,
+        Recursive,
+        case.interleaver,
+        message.as_slice(),
+        cells.as_mut_slice(),
+    ) {
         Ok(()) => 0,
         Err(refusal) => refusal.number(),
     };
@@ -84,22 +94,79 @@ const BASE: Case = Case {
 };
 
 fn limits_of_plans(rt: &LibcRuntime) -> Result<(), AnyError> {
-    let long = Case { interleaver: InterleaverKind::Straight, bytes: 5000, cells: 5000, ..BASE };
+    let long = Case {
+        interleaver: InterleaverKind::Straight,
+        bytes: 5000,
+        cells: 5000,
+        ..BASE
+    };
     report(rt, "bits per axis 0", Case { bits: 0, ..BASE })?;
     report(rt, "bits per axis 1", BASE)?;
     report(rt, "bits per axis 4", Case { bits: 4, ..BASE })?;
     report(rt, "bits per axis 5", Case { bits: 5, ..BASE })?;
-    report(rt, "message bits 0", Case { message_bits: 0, ..BASE })?;
-    report(rt, "message bits 1", Case { message_bits: 1, ..BASE })?;
-    report(rt, "message bits 4090", Case { message_bits: 4090, ..long })?;
-    report(rt, "message bits 4091", Case { message_bits: 4091, ..long })?;
+    report(
+        rt,
+        "message bits 0",
+        Case {
+            message_bits: 0,
+            ..BASE
+        },
+    )?;
+    report(
+        rt,
+        "message bits 1",
+        Case {
+            message_bits: 1,
+            ..BASE
+        },
+    )?;
+    report(
+        rt,
+        "message bits 4090",
+        Case {
+            message_bits: 4090,
+            ..long
+        },
+    )?;
+    report(
+        rt,
+        "message bits 4091",
+        Case {
+            message_bits: 4091,
+            ..long
+        },
+    )?;
     report(rt, "block cells 0", Case { block: 0, ..long })?;
     report(rt, "block cells 1", Case { block: 1, ..long })?;
     report(rt, "block cells 64", Case { block: 64, ..long })?;
     report(rt, "block cells 65", Case { block: 65, ..long })?;
-    report(rt, "two-step block 16", Case { block: 16, cells: 16, ..BASE })?;
-    report(rt, "two-step block 12", Case { block: 12, cells: 16, ..BASE })?;
-    report(rt, "two-step block 64", Case { block: 64, cells: 64, ..BASE })
+    report(
+        rt,
+        "two-step block 16",
+        Case {
+            block: 16,
+            cells: 16,
+            ..BASE
+        },
+    )?;
+    report(
+        rt,
+        "two-step block 12",
+        Case {
+            block: 12,
+            cells: 16,
+            ..BASE
+        },
+    )?;
+    report(
+        rt,
+        "two-step block 64",
+        Case {
+            block: 64,
+            cells: 64,
+            ..BASE
+        },
+    )
 }
 
 fn limits_of_buffers(rt: &LibcRuntime) -> Result<(), AnyError> {
@@ -107,7 +174,15 @@ fn limits_of_buffers(rt: &LibcRuntime) -> Result<(), AnyError> {
     report(rt, "message buffer one longer", Case { bytes: 3, ..BASE })?;
     report(rt, "a byte of 2 first", Case { two_at: 0, ..BASE })?;
     report(rt, "a byte of 2 last", Case { two_at: 1, ..BASE })?;
-    report(rt, "a byte of 2 behind the message", Case { bytes: 3, two_at: 2, ..BASE })?;
+    report(
+        rt,
+        "a byte of 2 behind the message",
+        Case {
+            bytes: 3,
+            two_at: 2,
+            ..BASE
+        },
+    )?;
     report(rt, "cell buffer one short", Case { cells: 7, ..BASE })?;
     report(rt, "cell buffer one longer", Case { cells: 9, ..BASE })
 }

@@ -93,13 +93,23 @@ fn letter(text: &str) -> u8 {
 impl Options {
     fn set(&mut self, flag: Flag, value: &str) -> Result<(), AnyError> {
         match flag {
-            Flag::Bits => self.bits = value.parse::<u8>().ok().ok_or("--bits wants a number from 0 to 255")?,
-            Flag::Block => self.block = value.parse::<u8>().ok().ok_or("--block wants a number from 0 to 255")?,
+            Flag::Bits => self.bits = value
+                .parse::<u8>()
+                .ok()
+                .ok_or("--bits wants a number from 0 to 255")?,
+            Flag::Block => self.block = value
+                .parse::<u8>()
+                .ok()
+                .ok_or("--block wants a number from 0 to 255")?,
             Flag::Rate => self.rate = rate_named(value).ok_or("--rate wants 1/2, 2/3 or 3/4")?,
-            Flag::Code => self.code = CodeKind::from_letter(letter(value)).ok_or("--code wants L or R")?,
+            Flag::Code => self.code = CodeKind::from_letter(letter(value)).ok_or(
+                "--code wants L or R",
+            )?,
             Flag::End => self.end = End::from_letter(letter(value)).ok_or("--end wants C or O")?,
             Flag::Interleaver => {
-                self.interleaver = InterleaverKind::from_letter(letter(value)).ok_or("--interleaver wants S or T")?;
+                self.interleaver = InterleaverKind::from_letter(letter(value)).ok_or(
+                    "--interleaver wants S or T",
+                )?;
             }
         }
         Ok(())

@@ -45,9 +45,19 @@ fn cells_of(heap: Global, options: &Options) -> Result<Vec<QamCell>, AnyError> {
         Ok(size) => size,
         Err(refusal) => return Err(refused(heap, refusal)?),
     };
-    let blank = QamCell { in_phase: 0, quadrature: 0, weight: 0 };
+    let blank = QamCell {
+        in_phase: 0,
+        quadrature: 0,
+        weight: 0,
+    };
     let mut cells = vec![in heap; blank; size.cells]?;
-    match send(plan, options.code, options.interleaver, options.message.as_slice(), cells.as_mut_slice()) {
+    match send(
+        plan,
+        options.code,
+        options.interleaver,
+        options.message.as_slice(),
+        cells.as_mut_slice(),
+    ) {
         Ok(()) => Ok(cells),
         Err(refusal) => Err(refused(heap, refusal)?),
     }
@@ -56,7 +66,11 @@ fn cells_of(heap: Global, options: &Options) -> Result<Vec<QamCell>, AnyError> {
 /// Prints a line for each cell.
 fn print_lines(rt: &LibcRuntime, cells: &[QamCell]) -> io::Result<()> {
     for cell in cells {
-        let QamCell { in_phase, quadrature, weight } = *cell;
+        let QamCell {
+            in_phase,
+            quadrature,
+            weight,
+        } = *cell;
         println!(rt, "{in_phase} {quadrature} {weight}")?;
     }
     Ok(())

@@ -142,16 +142,23 @@ fn cell_at_levels(bits: u8, cell: QamCell) -> QamCell
     }
 }
 
-/// Gives each cell the labels 0 and weight 1.
+/// A cell with the labels 0 and weight 1: positions that nothing is put into are filler, sent as 0.
+fn blank_cell() -> QamCell
+    ensures { λ r. ⌜ r ≡ holding 0 0 ⌝ }
+{
+    QamCell {
+        in_phase: 0,
+        quadrature: 0,
+        weight: 1,
+    }
+}
+
+/// Makes each cell blank.
 pub(crate) fn blank(cells: &mut [QamCell])
     ensures { λ _. ⌜ ((c : ℕ) (d : Cell-model) → c < length (now (cells .exit)) → getD (now (cells .exit)) c d ≡ holding 0 0) ⌝ }
 {
     for cell in cells.iter_mut() {
-        *cell = QamCell {
-            in_phase: 0,
-            quadrature: 0,
-            weight: 1,
-        };
+        *cell = blank_cell();
     }
 }
 

@@ -1,6 +1,6 @@
 -- `puncture::sent_code_bits` meets its contract: within its period a row of the table reads as the pattern.
 use denote.Enum.Declared.{tagOf}
-use mathlib.Core.Path.{_≡_}
+use mathlib.Core.Path.{_≡_, _∙_}
 use mathlib.Core.Bool.{true, false}
 use mathlib.Core.List.{List, [], _∷_}
 use Prim.Native.Nat.{ℕ, _%_}
@@ -37,4 +37,4 @@ seconds TwoThirds k = filled-up (second-row TwoThirds) (false ∷ []) k (omega a
 seconds ThreeQuarters k = filled-up (second-row ThreeQuarters) [] k (omega arith)
 
 pub returns : need.returns
-returns c = record { first = firsts (c .args .rate) (c .args .step); second = seconds (c .args .rate) (c .args .step) }
+returns c = record { first = c .row-at .ensures ∙ firsts (c .args .rate) (c .args .step); second = c .row-at-2 .ensures ∙ seconds (c .args .rate) (c .args .step) }
