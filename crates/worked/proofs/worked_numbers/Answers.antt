@@ -1,9 +1,0 @@
--- `worked_numbers` carries its theorem: antt computes each number.
-use mathlib.Core.Path.{refl}
-use lib.Count.{ones, onesIn}
-use Rattle.coding.specs.Puncturing.{sends-first, sends-second}
-use Rattle.worked.proofs.worked_numbers.Needs as need
-
-pub returns : need.returns
-unfolding ones onesIn sends-first sends-second
-returns c = record { two-bits-1 = refl; two-bits-191 = refl; three-bits-1 = refl; long-of-1 = refl; long-of-1-punctured = refl; recursive-of-10 = refl }
