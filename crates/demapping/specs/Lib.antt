@@ -1,0 +1,3 @@
+-- The meanings of the three demappers, and their steps. Assumes nothing.
+pub mod Demappings
+pub mod Steps
