@@ -1,0 +1,3 @@
+-- What the table has. Assumes nothing.
+pub mod Lines
+pub mod Spans
