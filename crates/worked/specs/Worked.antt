@@ -7,6 +7,7 @@ use Rattle.coding.specs.Encoding.{code-bits, inputs-of, sent-bits}
 use Rattle.coding.specs.Long.{long, long-closer, long-trellis}
 use Rattle.coding.specs.Recursive.{recursive, recursive-closer, recursive-trellis}
 use Rattle.interleaving.specs.TwoStep.{two-step}
+use Rattle.softbits.specs.Examples.{Worked-soft-bits}
 
 pub record Worked : Type 0 where
   -- the two-step interleaver, blocks of 48 cells: 16-QAM sends 1 to 13 and 191 to 190, 64-QAM sends 1 to 20
@@ -19,3 +20,5 @@ pub record Worked : Type 0 where
   pub long-of-1-punctured : sent-bits (record { trellis = long-trellis; tail = closed-by long-closer; rate = ThreeQuarters }) (1 ∷ []) ≡ 1 ∷ 1 ∷ 0 ∷ 1 ∷ 1 ∷ 1 ∷ 0 ∷ 0 ∷ 1 ∷ 1 ∷ []
   -- the recursive code, closed, on the message 10: 11 01 01 11
   pub recursive-of-10 : sent-bits (record { trellis = recursive-trellis; tail = closed-by recursive-closer; rate = Half }) (1 ∷ 0 ∷ []) ≡ 1 ∷ 1 ∷ 0 ∷ 1 ∷ 0 ∷ 1 ∷ 1 ∷ 1 ∷ []
+  -- the soft bits of twelve readings
+  pub soft-bits : Worked-soft-bits

@@ -1,11 +1,12 @@
 // The worked numbers, gathered under one theorem over the definitions that the contracts use.
 ghost use Rattle.worked.specs.Worked.{Worked};
+use softbits::worked_soft_bits;
 
 /// Carries what antt computes, for the public function below.
 fn computed() -> u8
     ensures all { λ _. ⌜ Worked ⌝ }
 {
-    0
+    worked_soft_bits()
 }
 
 /// The worked numbers hold of the definitions.
