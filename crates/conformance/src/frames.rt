@@ -14,7 +14,6 @@ use interleaving::InterleaverKindInterleaver;
 use interleaving::Straight;
 use interleaving::StraightInterleaver;
 use qam::QamCell;
-use qam::label;
 use refusals::Refusal;
 use refusals::RefusalDisplay;
 use sending::Plan;

@@ -6,8 +6,19 @@ mod vectors;
 
 use std::error::AnyError;
 
-fn main(rt: LibcRuntime) -> Result<(), AnyError> {
+/// Names the theorems that the run rests on: each function computes nothing, and its contract is the theorem.
+fn theorems() {
+    let _ = paths::tests_show_laws();
+    let _ = paths::closing_takes_steps();
+    let _ = coding::messages_are_well_sent();
+    let _ = interleaving::interleavers_are_bijections();
+    let _ = interleaving::positions_are_carried_once();
+    let _ = alternating::cannot_be_closed();
     let _ = worked::worked_numbers();
+}
+
+fn main(rt: LibcRuntime) -> Result<(), AnyError> {
+    theorems();
     labels::run(&rt)?;
     vectors::run(&rt)?;
     frames::run(&rt)?;

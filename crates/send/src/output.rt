@@ -15,17 +15,14 @@ use std::alloc::Global;
 use std::error::AnyError;
 use std::io;
 
-/// The plan that the options and the message's length make.
-fn plan_of(options: &Options) -> Result<Plan<End>, Refusal> {
-    match u16::try_from(options.message.len()) {
-        Ok(message_bits) => Ok(Plan {
-            bits_per_axis: options.bits,
-            message_bits,
-            block_cells: options.block,
-            rate: options.rate,
-            end: options.end,
-        }),
-        Err(_) => Err(Refusal::MessageLength),
+/// The plan that the options and the message's length make. A length that no plan could name stays one that every plan refuses.
+fn plan_of(options: &Options) -> Plan<End> {
+    Plan {
+        bits_per_axis: options.bits,
+        message_bits: u16::try_from(options.message.len()).unwrap_or(u16::MAX),
+        block_cells: options.block,
+        rate: options.rate,
+        end: options.end,
     }
 }
 
@@ -37,10 +34,7 @@ fn refused(heap: Global, refusal: Refusal) -> Result<AnyError, AnyError> {
 
 /// The cells of the message's frame.
 fn cells_of(heap: Global, options: &Options) -> Result<Vec<QamCell>, AnyError> {
-    let plan = match plan_of(options) {
-        Ok(plan) => plan,
-        Err(refusal) => return Err(refused(heap, refusal)?),
-    };
+    let plan = plan_of(options);
     let size = match frame_size(&plan, &options.code, &options.interleaver) {
         Ok(size) => size,
         Err(refusal) => return Err(refused(heap, refusal)?),
