@@ -1,2 +1,14 @@
 pub mod Tests
 pub mod Closings
+pub mod Newest
+pub mod Totals
+pub mod Beating
+pub mod Surviving
+pub mod Times
+pub mod Leasts
+pub mod Ends
+pub mod Closes
+pub mod Marking
+pub mod Tracing
+pub mod Rows
+pub mod Bearing

@@ -3,3 +3,7 @@ pub mod Paths
 pub mod Endings
 pub mod Tests
 pub mod Theorems
+pub mod Orders
+pub mod Survivors
+pub mod Best
+pub mod Rows
