@@ -7,7 +7,7 @@ use lib.Dec.{ltb}
 use Rattle.std.specs.declared.option.Option.{Option}
 use Rattle.std.specs.declared.option.Option.the-variants.{Some, None}
 use Rattle.refusals.specs.declared.Refusal.{Refusal}
-use Rattle.refusals.specs.declared.Refusal.the-variants.{BitsPerAxis, MessageLength, BlockLength, BlockNotTaken, MessageBuffer, MessageBit, CellBuffer}
+use Rattle.refusals.specs.declared.Refusal.the-variants.{BitsPerAxis, MessageLength, BlockLength, BlockNotTaken, SoftNumbers, DecisionStore, TotalStore, MessageBuffer, MessageBit, CellBuffer}
 
 -- the number that a refusal goes by
 abbrev pub number : Refusal → ℕ
@@ -15,6 +15,9 @@ number BitsPerAxis = 1
 number MessageLength = 2
 number BlockLength = 3
 number BlockNotTaken = 4
+number SoftNumbers = 5
+number DecisionStore = 10
+number TotalStore = 11
 number MessageBuffer = 12
 number MessageBit = 13
 number CellBuffer = 14

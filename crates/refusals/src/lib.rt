@@ -14,6 +14,12 @@ pub enum Refusal {
     BlockLength,
     /// 4: the interleaver takes no such block.
     BlockNotTaken,
+    /// 5: there are fewer soft numbers than bits sent.
+    SoftNumbers,
+    /// 10: the decision store has less than one word a step.
+    DecisionStore,
+    /// 11: a total store has fewer totals than the code has states.
+    TotalStore,
     /// 12: the message buffer is shorter than the message.
     MessageBuffer,
     /// 13: a byte of the message is neither 0 nor 1.
@@ -32,6 +38,9 @@ impl Refusal {
             Refusal::MessageLength => 2,
             Refusal::BlockLength => 3,
             Refusal::BlockNotTaken => 4,
+            Refusal::SoftNumbers => 5,
+            Refusal::DecisionStore => 10,
+            Refusal::TotalStore => 11,
             Refusal::MessageBuffer => 12,
             Refusal::MessageBit => 13,
             Refusal::CellBuffer => 14,
@@ -46,6 +55,9 @@ pub impl fmt::Display for Refusal as RefusalDisplay {
             Refusal::MessageLength => f.write_str("message length outside 1 to 4090 bits"),
             Refusal::BlockLength => f.write_str("block length outside 1 to 64 cells"),
             Refusal::BlockNotTaken => f.write_str("the interleaver takes no such block"),
+            Refusal::SoftNumbers => f.write_str("fewer soft numbers than bits sent"),
+            Refusal::DecisionStore => f.write_str("decision store under one word a step"),
+            Refusal::TotalStore => f.write_str("total store under one total a state"),
             Refusal::MessageBuffer => f.write_str("message buffer shorter than the message"),
             Refusal::MessageBit => f.write_str("a message byte is neither 0 nor 1"),
             Refusal::CellBuffer => f.write_str("cell buffer shorter than the frame"),

@@ -1,0 +1,9 @@
+pub mod Counts
+pub mod Costing
+pub mod Bearing
+pub mod Stepping
+pub mod Striding
+pub mod Totalling
+pub mod Finding
+pub mod Granting
+pub mod Falling

@@ -1,0 +1,4 @@
+pub mod Penalties
+pub mod Nearest
+pub mod Steps
+pub mod Worked
