@@ -14,6 +14,18 @@ fn theorems() {
     let _ = interleaving::interleavers_are_bijections();
     let _ = interleaving::positions_are_carried_once();
     let _ = alternating::cannot_be_closed();
+    let _ = paths::survivors_are_best::<u64>();
+    let _ = orders::sum_is_a_sum();
+    let _ = trellis::nearest_is_one::<u64>();
+    let _ = softbits::exact_divisor();
+    let _ = softbits::exact_range();
+    let _ = softbits::short_agrees();
+    let _ = softbits::near_is_nearest();
+    let _ = softbits::signs_tell();
+    let _ = demapping::exact_is_exact();
+    let _ = demapping::short_gap();
+    let _ = reception::least_is_nearest::<u64>();
+    let _ = reception::unharmed_comes_back::<u64>();
     let _ = worked::worked_numbers();
 }
 

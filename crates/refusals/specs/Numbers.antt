@@ -7,7 +7,7 @@ use lib.Dec.{ltb}
 use Rattle.std.specs.declared.option.Option.{Option}
 use Rattle.std.specs.declared.option.Option.the-variants.{Some, None}
 use Rattle.refusals.specs.declared.Refusal.{Refusal}
-use Rattle.refusals.specs.declared.Refusal.the-variants.{BitsPerAxis, MessageLength, BlockLength, BlockNotTaken, SoftNumbers, DecisionStore, TotalStore, MessageBuffer, MessageBit, CellBuffer}
+use Rattle.refusals.specs.declared.Refusal.the-variants.{BitsPerAxis, MessageLength, BlockLength, BlockNotTaken, SoftNumbers, ReadingRange, WeightRange, FrameFull, CellsMissing, DecisionStore, TotalStore, MessageBuffer, MessageBit, CellBuffer}
 
 -- the number that a refusal goes by
 abbrev pub number : Refusal → ℕ
@@ -16,6 +16,10 @@ number MessageLength = 2
 number BlockLength = 3
 number BlockNotTaken = 4
 number SoftNumbers = 5
+number ReadingRange = 6
+number WeightRange = 7
+number FrameFull = 8
+number CellsMissing = 9
 number DecisionStore = 10
 number TotalStore = 11
 number MessageBuffer = 12

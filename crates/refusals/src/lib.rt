@@ -16,6 +16,14 @@ pub enum Refusal {
     BlockNotTaken,
     /// 5: there are fewer soft numbers than bits sent.
     SoftNumbers,
+    /// 6: a reading is outside −2,047 to 2,047.
+    ReadingRange,
+    /// 7: the weight is above 1,023.
+    WeightRange,
+    /// 8: all cells of the frame have come.
+    FrameFull,
+    /// 9: cells of the frame are missing.
+    CellsMissing,
     /// 10: the decision store has less than one word a step.
     DecisionStore,
     /// 11: a total store has fewer totals than the code has states.
@@ -39,6 +47,10 @@ impl Refusal {
             Refusal::BlockLength => 3,
             Refusal::BlockNotTaken => 4,
             Refusal::SoftNumbers => 5,
+            Refusal::ReadingRange => 6,
+            Refusal::WeightRange => 7,
+            Refusal::FrameFull => 8,
+            Refusal::CellsMissing => 9,
             Refusal::DecisionStore => 10,
             Refusal::TotalStore => 11,
             Refusal::MessageBuffer => 12,
@@ -56,6 +68,10 @@ pub impl fmt::Display for Refusal as RefusalDisplay {
             Refusal::BlockLength => f.write_str("block length outside 1 to 64 cells"),
             Refusal::BlockNotTaken => f.write_str("the interleaver takes no such block"),
             Refusal::SoftNumbers => f.write_str("fewer soft numbers than bits sent"),
+            Refusal::ReadingRange => f.write_str("reading outside -2047 to 2047"),
+            Refusal::WeightRange => f.write_str("weight above 1023"),
+            Refusal::FrameFull => f.write_str("all cells of the frame have come"),
+            Refusal::CellsMissing => f.write_str("cells of the frame are missing"),
             Refusal::DecisionStore => f.write_str("decision store under one word a step"),
             Refusal::TotalStore => f.write_str("total store under one total a state"),
             Refusal::MessageBuffer => f.write_str("message buffer shorter than the message"),

@@ -8,6 +8,7 @@ use Rattle.coding.specs.Long.{long, long-closer, long-trellis}
 use Rattle.coding.specs.Recursive.{recursive, recursive-closer, recursive-trellis}
 use Rattle.interleaving.specs.TwoStep.{two-step}
 use Rattle.softbits.specs.Examples.{Worked-soft-bits}
+use Rattle.trellis.specs.Worked.{Worked-totals}
 
 pub record Worked : Type 0 where
   -- the two-step interleaver, blocks of 48 cells: 16-QAM sends 1 to 13 and 191 to 190, 64-QAM sends 1 to 20
@@ -22,3 +23,5 @@ pub record Worked : Type 0 where
   pub recursive-of-10 : sent-bits (record { trellis = recursive-trellis; tail = closed-by recursive-closer; rate = Half }) (1 ∷ 0 ∷ []) ≡ 1 ∷ 1 ∷ 0 ∷ 1 ∷ 0 ∷ 1 ∷ 1 ∷ 1 ∷ []
   -- the soft bits of twelve readings
   pub soft-bits : Worked-soft-bits
+  -- the totals of the four messages of two bits at eight soft numbers
+  pub totals : Worked-totals
