@@ -26,6 +26,7 @@ fn theorems() {
     let _ = demapping::short_gap();
     let _ = reception::least_is_nearest::<u64>();
     let _ = reception::unharmed_comes_back::<u64>();
+    let _ = reception::orders_prefer_free::<u64>();
     let _ = worked::worked_numbers();
 }
 

@@ -1,4 +1,5 @@
 pub mod Sums
+pub mod Preferring
 pub mod Fairness
 pub mod Nearest
 pub mod Weights

@@ -2,7 +2,7 @@
 use mathlib.Core.Path.{_≡_}
 use mathlib.Core.List.{List}
 use Prim.Native.Nat.{ℕ, _≤_}
-use Rattle.paths.specs.Orders.{Metric}
+use Rattle.paths.specs.Orders.{Is-sum, Metric}
 use Rattle.paths.specs.Paths.{Inputs}
 use Rattle.softbits.specs.Demapping.{Tells}
 use Rattle.sending.specs.Links.{Planned, cells}
@@ -22,3 +22,7 @@ Least-is-nearest X = (R : Reception) (M : Metric X) (es : List Entry) (ms : List
 abbrev pub Unharmed-comes-back : Type 0 → Type 0
 Unharmed-comes-back X = (R : Reception) (M : Metric X) (ms rs ws : List ℕ) (t : X) → Planned (R .link) → Tells (R .demapping) → Prefers-free M → Inputs (R .link .K) ms → Weights (cells (R .link)) ws →
     Least-total (R .link .coding) (R .link .K) M (received-at R (unharmed (sent-cells (R .link) ms) ws)) rs t → sent-cells (R .link) rs ≡ sent-cells (R .link) ms
+
+-- where totals are sums, all penalties 0 are lower than any that are not all 0
+abbrev pub Sums-prefer-free : Type 0 → Type 0
+Sums-prefer-free X = (M : Metric X) → Is-sum M → Prefers-free M
