@@ -47,7 +47,6 @@ fn list<O: Readable>(
     for number in 0..1u32 << bits {
         let message = spell(number, bits);
         let front = &message[0..bits as usize];
-        let mut trail = [0u8; 16];
         let Some(total) = reckon(
             &options.code,
             &options.end,
@@ -55,7 +54,6 @@ fn list<O: Readable>(
             &options.soft,
             order,
             front,
-            &mut trail,
         ) else {
             return Err("no total".into());
         };

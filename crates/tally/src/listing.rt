@@ -18,6 +18,33 @@ pub fn spell(number: u32, bits: u8) -> [u8; 10] {
     message
 }
 
+/// The states of a message's path, closing steps included and zeros behind them; None for a path of more than 16 steps, and for a
+/// byte that is no bit.
+fn trail_of<C: Code, E: Ending<C>>(code: &C, end: &E, message: &[u8]) -> Option<[u8; 16]> {
+    let mut trail = [0u8; 16];
+    let mut state = 0;
+    let closing = end.closing_steps(code) as usize;
+    if message.len() > 10 || message.len() + closing > 16 {
+        return None;
+    }
+    for step in 0..message.len() + closing {
+        if state >= code.states() {
+            return None;
+        }
+        let input = if step < message.len() {
+            message[step]
+        } else {
+            end.closing_input(code, state)
+        };
+        if input > 1 {
+            return None;
+        }
+        (state, _, _) = code.branch(state, input);
+        trail[step] = state;
+    }
+    Some(trail)
+}
+
 /// Whether the first of two trails comes earlier: at the last step where they differ its state is the smaller.
 fn is_earlier(first: &[u8; 16], second: &[u8; 16]) -> bool {
     for k in (0..16).rev() {
@@ -77,16 +104,10 @@ pub fn nearest_by_listing<C: Code, E: Ending<C>, O: Order>(
     let mut best_trail = [0u8; 16];
     for number in 0..1u32 << bits {
         let message = spell(number, bits);
-        let mut trail = [0u8; 16];
-        let Some(total) = reckon(
-            code,
-            end,
-            rate,
-            soft,
-            order,
-            &message[0..bits as usize],
-            &mut trail,
-        ) else {
+        let Some(total) = reckon(code, end, rate, soft, order, &message[0..bits as usize]) else {
+            return None;
+        };
+        let Some(trail) = trail_of(code, end, &message[0..bits as usize]) else {
             return None;
         };
         let nearer = is_nearest_yet(order, total, &trail, best, &best_trail);

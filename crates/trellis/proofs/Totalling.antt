@@ -51,7 +51,7 @@ module _ {X : Type 0} (Q : Coding) (M : Metric X) (v : ℕ → ℤ) where
       ∙ sym (adds-append M t (penalties v j here) (penalties v (j + length here) rest))
       ∙ ap (λ (ps : List ℕ). adds M t ps) (sym (penalties-append v j here rest))
 
-  total-steps : (ms : List ℕ) → total Q M v ms ≡ path-total (code-of Q) M (costs-at (Q .rate) v) (inputs-of Q ms)
+  pub total-steps : (ms : List ℕ) → total Q M v ms ≡ path-total (code-of Q) M (costs-at (Q .rate) v) (inputs-of Q ms)
   total-steps ms = sym (by-positions 0 0 (M .start) (inputs-of Q ms) ∙ ap (λ (i : ℕ). adds M (M .start) (penalties v i (sent-bits Q ms))) (sent-none (Q .rate)))
 
   pub least-total : (K : ℕ) (t : X) (ms : List ℕ) → Best-message (code-of Q) M (costs-at (Q .rate) v) (Q .tail) K t ms → Least-total Q K M v ms t
