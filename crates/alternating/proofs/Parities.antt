@@ -4,7 +4,7 @@ use native.Mathlib.Nat.{div-add-mod}
 use Rattle.std.proofs.lemmas.Nat.{mod-mul-add, mod_below}
 use Rattle.coding.proofs.Sent.{length_closing}
 use Rattle.paths.specs.Paths.{end_from}
-use Rattle.paths.specs.Endings.{Closer, closing}
+use Rattle.paths.specs.Endings.{closing}
 use Rattle.alternating.specs.Alternating.{CannotBeClosed, alternating}
 
 -- the parity of a sum is that of its rest

@@ -1,4 +1,6 @@
 // A code that is a `Code` and not `Closable`: an example of a code without an end to name.
+#![tactic(auto)]
+
 ghost use Rattle.alternating.specs.Alternating.{CannotBeClosed, alternating_trellis};
 ghost use Rattle.std.specs.Prelude.{◌≡◌};
 

@@ -1,11 +1,10 @@
 -- Inputs and sent bits are bits, and how many there are. Assumes nothing.
-use Rattle.std.proofs.Common.{◌≡◌, ℕ, zero, suc, ◌+◌, ◌<◌, ◌≤◌, Bool, true, false, cond, List, [], ◌∷◌, ◌++◌, length, get_or, sym, refl, ap, ◌∙◌, subst, arith, length-append}
+use Rattle.std.proofs.Common.{◌≡◌, ℕ, zero, suc, ◌+◌, ◌<◌, ◌≤◌, Bool, true, false, cond, List, [], ◌∷◌, length, refl, ap, ◌∙◌, arith, length-append}
 use Rattle.std.specs.List.{AllByRecursion as All}
 use Rattle.std.proofs.ByRecursion.{All-get_or, All-from_get_or, All-append}
 use Rattle.paths.specs.Codes.{Code, CodeLaws}
 use Rattle.paths.specs.Paths.{Inputs, end_from, path_end}
 use Rattle.paths.specs.Endings.{Closer, CloserLaws, Tail, Tail.unclosed, Tail.closed_by, TailLaws, closing, closing_steps, tail_inputs}
-use Rattle.coding.specs.declared.puncture.Rate.{Rate}
 use Rattle.coding.specs.Puncturing.{sends_first, sends_second, sent_before}
 use Rattle.coding.specs.Encoding.{Coding, MessagesWellSent, code_of, if_sent, inputs_of, sent_at, sent_bits, sent_from, steps_for}
 

@@ -1,4 +1,6 @@
 // Codes, endings and puncturing: from a message to the bits that are sent.
+#![tactic(auto)]
+
 mod code;
 mod ending;
 mod kind;

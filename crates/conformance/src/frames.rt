@@ -1,6 +1,6 @@
 // Frames of every rate, code, end and interleaver: how many cells each has, and a sum over their readings.
 use alternating::Alternating;
-use anyhow::Context;
+use anyhow::{Context, anyhow};
 use coding::{CodeKind, End, NoEnd, Rate};
 use interleaving::{InterleaverKind, Straight};
 use qam::QamCell;
@@ -28,8 +28,8 @@ pub fn message_of(heap: Global, digits: &[u8]) -> anyhow::Result<Vec<u8>> {
     Ok(message)
 }
 
-fn refused(heap: Global, refusal: Refusal) -> anyhow::Result<anyhow::Error> {
-    Ok(format!(in heap; "refused: {refusal}")?.into())
+fn refused(refusal: Refusal) -> anyhow::Error {
+    anyhow!("refused: {refusal}")
 }
 
 /// The cells of a message's frame.
@@ -46,7 +46,7 @@ pub fn cells_of(heap: Global, frame: Frame, digits: &[u8]) -> anyhow::Result<Vec
     };
     let size = match frame_size(&plan, &frame.code, &frame.interleaver) {
         Ok(size) => size,
-        Err(refusal) => return Err(refused(heap, refusal)?),
+        Err(refusal) => return Err(refused(refusal)),
     };
     let blank = QamCell {
         in_phase: 0,
@@ -62,7 +62,7 @@ pub fn cells_of(heap: Global, frame: Frame, digits: &[u8]) -> anyhow::Result<Vec
         cells.as_mut_slice(),
     ) {
         Ok(()) => Ok(cells),
-        Err(refusal) => Err(refused(heap, refusal)?),
+        Err(refusal) => Err(refused(refusal)),
     }
 }
 

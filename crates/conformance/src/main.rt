@@ -1,4 +1,5 @@
 // Runs published vectors and tables through the library, and prints what came; the stored output was made apart from it.
+#![tactic(auto)]
 
 mod frames;
 mod labels;

@@ -1,4 +1,6 @@
 // Demappers: from an axis and a reading four soft bits, positive for a 1 and negative for a 0.
+#![tactic(auto)]
+
 ghost use Rattle.qam.specs.Levels.{Axis};
 ghost use Rattle.softbits.specs.Demapping.{Demapping, Tells, answers};
 ghost use Rattle.softbits.specs.SoftBits.{Reading};

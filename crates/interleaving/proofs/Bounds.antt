@@ -1,5 +1,5 @@
 -- Bounds of what the steps compute. Assumes nothing.
-use Rattle.std.proofs.Common.{◌≡◌, ℕ, ◌+◌, ◌*◌, ◌/◌, ◌<◌, ◌≤◌, mul-pos, arith}
+use Rattle.std.proofs.Common.{ℕ, ◌*◌, ◌<◌, ◌≤◌, mul-pos, arith}
 use Rattle.std.proofs.lemmas.Nat.{mul-le}
 use Rattle.interleaving.specs.Interleaving.{size}
 use Rattle.interleaving.specs.StepLaws.{Cut}

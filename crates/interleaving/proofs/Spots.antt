@@ -1,8 +1,7 @@
 -- Every position of a frame is one bit of one cell. Assumes nothing.
-use Rattle.std.proofs.Common.{◌≡◌, ℕ, ◌+◌, ◌*◌, ◌/◌, ◌%◌, ◌<◌, sym, ap, ◌∙◌, subst, mul_comm, arith}
+use Rattle.std.proofs.Common.{◌≡◌, ℕ, ◌+◌, ◌*◌, ◌/◌, ◌%◌, ◌<◌, ap, ◌∙◌, subst, mul_comm, arith}
 use lib.Arith.{digits_lt}
 use Rattle.std.proofs.lemmas.Nat.{div-add-mod', mul-lt, mul-add-lt, div-mul-add, mod-mul-add, div_below, mod_below}
-use Rattle.interleaving.specs.Interleaving.{Interleaving, Sized}
 use Rattle.interleaving.specs.Blocks.{EveryPositionOnce}
 
 -- cells of W bits, B to a block, with places and positions of a block

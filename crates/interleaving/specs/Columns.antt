@@ -1,8 +1,7 @@
 -- Proofs, not definitions: tables read by columns, and groups of places that are turned. Assumes nothing.
-use Rattle.std.specs.Prelude.{◌≡◌, ℕ, zero, suc, ◌+◌, ◌-◌, ◌*◌, ◌/◌, ◌%◌, ◌<◌, ◌≤◌, Bool, true, false, ◌&&◌, eqb, ltb, refl}
-use Rattle.std.proofs.Common.{sym, ap, subst, ◌∙◌, arith, mul_comm, mul_assoc, mod-lt, mul-zero}
-use Rattle.std.proofs.Math.Nat.{mul-div-mul_left, mul-div_right, div-div-eq-div-mul, div-add-mod, mod-add-mod, add-mul-mod_self_left, mod-mod}
-use Rattle.std.proofs.lemmas.Bool.{and_parts, ltb-true, eqb-true}
+use Rattle.std.specs.Prelude.{◌≡◌, ℕ, ◌+◌, ◌*◌, ◌/◌, ◌%◌, ◌<◌}
+use Rattle.std.proofs.Common.{sym, ap, ◌∙◌, arith, mul_comm}
+use Rattle.std.proofs.Math.Nat.{div-add-mod, mod-add-mod, add-mul-mod_self_left}
 use Rattle.std.proofs.lemmas.Nat.{mul-add-lt, div-mul-add, mod-mul-add, div_below, mod_below}
 
 -- ---- a table with c columns and d rows, written row by row and read column by column

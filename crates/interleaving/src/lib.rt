@@ -1,4 +1,6 @@
 // Interleavers: they send the positions of a block to places, and back.
+#![tactic(auto)]
+
 mod cascade;
 mod interleaver;
 mod kind;

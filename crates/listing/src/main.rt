@@ -1,4 +1,6 @@
 // Holds the search against a listing of every message, for both codes, both ends, all rates and both orders; and its refusals.
+#![tactic(auto)]
+
 mod stores;
 
 use coding::{CodeKind, End, Rate};

@@ -1,10 +1,13 @@
 // Finds the nearest message of soft numbers, and lists the totals of all messages of a few bits.
+#![tactic(auto)]
+
 mod answer;
 mod options;
 
 use answer::answer;
 use options::{Asked, read_command};
 use orders::{CountFirst, Sum};
+use std::process::ExitCode;
 
 const HELP: &str =
     "usage: nearest [--code=L|R] [--end=C|O] [--rate=1/2|2/3|3/4] [--bits=K] [--order=S|C] [--list] [SOFT...]
@@ -35,12 +38,12 @@ fn run(rt: &HostRuntime) -> anyhow::Result<()> {
     Ok(())
 }
 
-fn main(rt: HostRuntime) -> anyhow::Result<()> {
+fn main(rt: HostRuntime) -> ExitCode {
     match run(&rt) {
-        Ok(()) => Ok(()),
+        Ok(()) => ExitCode::SUCCESS,
         Err(problem) => {
-            eprintln!(rt; "nearest: {problem}")?;
-            Err(problem)
+            let _ = eprintln!(rt; "nearest: {problem}");
+            ExitCode::FAILURE
         }
     }
 }

@@ -1,4 +1,6 @@
 // The search for C to call: the long code, closed, at rate 1/2, by the sum of penalties.
+#![tactic(auto)]
+
 ghost use Rattle.nearest_c.specs.Lent.{answered, long_coding};
 ghost use Rattle.orders.specs.Sum.{sums};
 ghost use Rattle.trellis.specs.Nearest.{FoundNearest, Untouched, search_refusal};

@@ -1,4 +1,6 @@
 // Orders of totals: how penalties add up to a total, and which of two totals is lower.
+#![tactic(auto)]
+
 mod count_first;
 mod order;
 mod sum;

@@ -1,6 +1,6 @@
 -- To close a code takes at least one step. Assumes nothing.
-use Rattle.std.proofs.Common.{◌≡◌, ℕ, zero, suc, ◌<◌, refl, subst, inl, inr, arith}
-use Rattle.paths.specs.Codes.{Code, CodeLaws}
+use Rattle.std.proofs.Common.{◌≡◌, ℕ, zero, suc, ◌<◌, refl, subst, arith}
+use Rattle.paths.specs.Codes.{Code}
 use Rattle.paths.specs.Paths.{end_from}
 use Rattle.paths.specs.Endings.{Closer, CloserLaws, closing}
 use Rattle.paths.specs.Theorems.{ClosingTakesSteps}

@@ -1,5 +1,5 @@
 -- A code, and a way of closing it, that pass the tests keep their laws. Assumes nothing.
-use Rattle.std.proofs.Common.{◌≡◌, ℕ, zero, suc, ◌-◌, ◌<◌, Bool, true, false, not, ◌&&◌, ◌||◌, eqb, ltb, leb, ◌⊎◌, List, [], ◌∷◌, refl, ap, ◌∙◌, subst, inl, inr, arith}
+use Rattle.std.proofs.Common.{◌≡◌, ℕ, zero, suc, ◌-◌, ◌<◌, Bool, true, not, ◌&&◌, ◌||◌, eqb, ltb, leb, ◌⊎◌, List, [], ◌∷◌, refl, ap, ◌∙◌, subst, inl, inr, arith}
 use Rattle.std.proofs.lemmas.Bool.{ltb-true, leb-true, eqb-true, eq-eqb, and_parts, or_cases, or_left, or_right, not-true, both_ways, cases_order, cases_eq}
 use Rattle.paths.specs.Codes.{Branch, Code, Takes, Enters, CodeLaws}
 use Rattle.paths.specs.Paths.{Inputs, end_from}

@@ -1,5 +1,5 @@
 -- Tests that tell whether a code and a way of closing it keep their laws; antt computes them for a code at hand. Assumes nothing.
-use Rattle.std.specs.Prelude.{ℕ, zero, suc, ◌-◌, Bool, true, false, not, ◌&&◌, ◌||◌, ◌==◌, nat_le, nat_lt}
+use Rattle.std.specs.Prelude.{ℕ, zero, suc, ◌-◌, Bool, true, not, ◌&&◌, ◌||◌, ◌==◌, nat_le, nat_lt}
 use Rattle.paths.specs.Codes.{Branch, Code}
 use Rattle.paths.specs.Paths.{end_from}
 use Rattle.paths.specs.Endings.{Closer, closing}

@@ -1,5 +1,5 @@
 -- What is shown of every code. Assumes nothing.
-use Rattle.std.specs.Prelude.{◌≡◌, ℕ, ◌<◌, true}
+use Rattle.std.specs.Prelude.{◌≡◌, ◌<◌, true}
 use Rattle.paths.specs.Codes.{Code, CodeLaws}
 use Rattle.paths.specs.Endings.{Closer, CloserLaws}
 use Rattle.paths.specs.Tests.{code_ok, closer_ok}

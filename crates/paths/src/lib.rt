@@ -1,4 +1,6 @@
 // Codes, paths and endings as mathematics: definitions, and theorems on the contracts of functions that compute nothing.
+#![tactic(auto)]
+
 ghost use Rattle.paths.specs.Best.{BestPath};
 ghost use Rattle.paths.specs.Theorems.{CloserTest, ClosingTakesSteps, CodeTest};
 

@@ -1,4 +1,6 @@
 // Compares the exact demapper with the published piecewise forms of 16-QAM and 64-QAM at every reading.
+#![tactic(auto)]
+
 ghost use Rattle.std.specs.Prelude.{◌≤◌};
 
 mod forms;

@@ -1,5 +1,5 @@
 -- Each label of an axis is that of one level alone: antt computes the 30 labels. Assumes nothing.
-use Rattle.std.proofs.Common.{◌≡◌, ℕ, ◌/◌, ◌^◌, ◌<◌, Bool, true, false, not, ◌&&◌, ◌||◌, eqb, ltb, leb, sym, refl, inl, inr}
+use Rattle.std.proofs.Common.{◌≡◌, ℕ, ◌/◌, ◌^◌, ◌<◌, Bool, true, not, ◌&&◌, ◌||◌, eqb, ltb, leb, refl, inl, inr}
 use lib.Bits.{bit_xor}
 use Rattle.std.proofs.lemmas.Bool.{and_parts, or_cases, both_ways, not-true, eqb-true, eq-eqb, ltb-true, leb-true}
 use Rattle.qam.specs.Levels.{Axis, SoleLabel, is_label, label, labelled}

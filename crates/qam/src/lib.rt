@@ -1,4 +1,6 @@
 // Levels and Gray labels of QAM axes, and cells. Bits of a label are counted from 1, the highest first.
+#![tactic(auto)]
+
 mod cell;
 mod gray;
 

@@ -1,5 +1,5 @@
 -- Positions, cells and bits without a bound on the position. Assumes nothing.
-use Rattle.std.proofs.Common.{◌≡◌, ℕ, suc, ◌*◌, ◌%◌, ◌<◌, ◌≤◌, true, sym, refl, ap, ◌∙◌, arith}
+use Rattle.std.proofs.Common.{◌≡◌, ℕ, suc, ◌*◌, ◌%◌, ◌<◌, true, sym, refl, ap, ◌∙◌, arith}
 use Rattle.std.proofs.lemmas.Nat.{mod_below, mul-le, mul-lt}
 use Rattle.interleaving.specs.Interleaving.{Interleaving, Sized, size}
 use Rattle.interleaving.specs.Blocks.{bit_of, cell_bits, cell_of, spot}

@@ -1,17 +1,16 @@
 -- Cells that came unharmed lead back to a message that sends the same cells. Assumes nothing.
-use Rattle.std.proofs.Common.{◌≡◌, ℕ, zero, suc, ◌+◌, ◌-◌, ◌*◌, ◌^◌, ◌<◌, ◌≤◌, Bool, true, false, cond, eqb, ltb, ◌⊎◌, List, [], ◌∷◌, ◌++◌, length, get_or, ℤ, pos, negsuc, ◌*ℤ◌, nat_abs, ◌<ℤ◌, Some, sym, refl, ap, ◌∙◌, subst, inl, inr, arith}
-use Rattle.std.specs.List.{AllByRecursion as All}
-use Rattle.std.proofs.lemmas.Nat.{mod_below, mul-lt}
+use Rattle.std.proofs.Common.{◌≡◌, ℕ, zero, suc, ◌+◌, ◌-◌, ◌*◌, ◌^◌, ◌<◌, ◌≤◌, Bool, true, false, cond, eqb, ltb, ◌⊎◌, List, [], ◌∷◌, length, get_or, ℤ, pos, negsuc, ◌*ℤ◌, nat_abs, ◌<ℤ◌, sym, refl, ap, ◌∙◌, subst, inl, inr, arith}
+use Rattle.std.proofs.lemmas.Nat.{mul-lt}
 use Rattle.std.proofs.lemmas.List.FromFn.{length-map-range_with_len}
 use Rattle.std.proofs.lemmas.List.{append-nil}
 use Rattle.std.proofs.lemmas.Int.{ints}
 use Rattle.std.proofs.lemmas.Bool.{both_ways, cases_eq, ltb-false, ltb-true}
 use Rattle.qam.specs.declared.cell.QamCell.{QamCell}
 use Rattle.qam.specs.Levels.{Axis, BitOf, label_bit, reading}
-use Rattle.qam.specs.Cells.{Carries, CellCarries, axis_of, bit_of_axis}
+use Rattle.qam.specs.Cells.{CellCarries, bit_of_axis}
 use Rattle.qam.proofs.Axes.{levels_few}
 use Rattle.softbits.specs.SoftBits.{Reading}
-use Rattle.softbits.specs.Demapping.{Demapping, Tells}
+use Rattle.softbits.specs.Demapping.{Tells}
 use Rattle.coding.specs.Encoding.{sent_bits, steps_for}
 use Rattle.coding.specs.Puncturing.{sent_before}
 use Rattle.coding.proofs.Patterns.{sent_most}
@@ -20,7 +19,7 @@ use Rattle.interleaving.specs.Blocks.{bit_of, cell_bits, cell_of}
 use Rattle.interleaving.proofs.Spots.{every_position_once}
 use Rattle.paths.specs.Orders.{heaviest, most_penalties}
 use Rattle.paths.specs.Paths.{Inputs}
-use Rattle.sending.specs.Links.{Link, Planned, block, blocks, cells, positions, sent}
+use Rattle.sending.specs.Links.{Planned, block, blocks, cells, positions, sent}
 use Rattle.sending.specs.Cells.{bit_at, cell_with, cells_with, sent_cells}
 use Rattle.sending.proofs.Encodings.{raised_over}
 use Rattle.sending.proofs.Sendings.{cells_carry}

@@ -1,5 +1,5 @@
 -- Bits that were received with their own signs pay nothing, and no other bits pay nothing. Assumes nothing.
-use Rattle.std.proofs.Common.{◌≡◌, ℕ, zero, suc, ◌+◌, ◌<◌, List, [], ◌∷◌, length, get_or, ℤ, pos, negsuc, ◌<ℤ◌, refl, ap, subst, arith}
+use Rattle.std.proofs.Common.{◌≡◌, ℕ, zero, suc, ◌<◌, List, [], ◌∷◌, length, ℤ, pos, negsuc, ◌<ℤ◌, refl, ap, arith}
 use borrow.Author.Differences.{lt_out}
 use Rattle.std.specs.List.{AllByRecursion as All}
 use Rattle.trellis.specs.Penalties.{penalties, penalty}

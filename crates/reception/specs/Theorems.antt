@@ -1,5 +1,5 @@
 -- What is shown of every reception. Assumes nothing.
-use Rattle.std.specs.Prelude.{◌≡◌, ℕ, ◌≤◌, List}
+use Rattle.std.specs.Prelude.{◌≡◌, ℕ, List}
 use Rattle.paths.specs.Orders.{IsSum, Metric}
 use Rattle.paths.specs.Paths.{Inputs}
 use Rattle.softbits.specs.Demapping.{Tells}

@@ -1,4 +1,6 @@
 // What a frame has received, and how near a message is to it: definitions, and theorems on the contracts of functions that compute nothing.
+#![tactic(auto)]
+
 ghost use Rattle.orders.specs.CountFirst.{counts};
 ghost use Rattle.reception.specs.Theorems.{LeastIsNearest, SumsPreferFree, UnharmedComesBack};
 ghost use Rattle.reception.specs.Unharmed.{PrefersFree};

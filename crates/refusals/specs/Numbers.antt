@@ -1,5 +1,5 @@
 -- The number of each refusal, and which row of a table of checks is met first. Assumes nothing.
-use Rattle.std.specs.Prelude.{◌≡◌, ℕ, Bool, cond, ◌||◌, List, [], ◌∷◌, Some, None, Option, nat_lt}
+use Rattle.std.specs.Prelude.{ℕ, Bool, cond, ◌||◌, List, [], ◌∷◌, Some, None, Option, nat_lt}
 use Rattle.refusals.specs.declared.Refusal.{Refusal}
 use Rattle.refusals.specs.declared.Refusal.TheVariants.{BitsPerAxis, MessageLength, BlockLength, BlockNotTaken, SoftNumbers, ReadingRange, WeightRange, FrameFull, CellsMissing, DecisionStore, TotalStore, MessageBuffer, MessageBit, CellBuffer}
 

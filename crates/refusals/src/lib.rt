@@ -1,4 +1,6 @@
 // Why a call is refused: each refusal goes by a number that never changes.
+#![tactic(auto)]
+
 ghost use Rattle.refusals.specs.Numbers.{number as refusal-number};
 ghost use Rattle.std.specs.Prelude.{◌≡◌};
 

@@ -1,9 +1,12 @@
 // The program `send`: turns a message into the QAM cells of its frame, and prints them.
+#![tactic(auto)]
+
 mod options;
 mod output;
 
 use options::{Options, Task};
 use output::print_cells;
+use std::process::ExitCode;
 
 fn run(rt: &HostRuntime) -> anyhow::Result<()> {
     match options::read(rt)? {
@@ -14,12 +17,12 @@ fn run(rt: &HostRuntime) -> anyhow::Result<()> {
     Ok(())
 }
 
-fn main(rt: HostRuntime) -> anyhow::Result<()> {
+fn main(rt: HostRuntime) -> ExitCode {
     match run(&rt) {
-        Ok(()) => Ok(()),
+        Ok(()) => ExitCode::SUCCESS,
         Err(error) => {
-            eprintln!(rt; "send: {error}")?;
-            Err(error)
+            let _ = eprintln!(rt; "send: {error}");
+            ExitCode::FAILURE
         }
     }
 }

@@ -100,12 +100,12 @@ impl Options {
                 .ok()
                 .context("--block wants a number from 0 to 255")?,
             Flag::Rate => self.rate = rate_named(value).context("--rate wants 1/2, 2/3 or 3/4")?,
-            Flag::Code => self.code = CodeKind::from_letter(letter(value)).ok_or(
+            Flag::Code => self.code = CodeKind::from_letter(letter(value)).context(
                 "--code wants L or R",
             )?,
             Flag::End => self.end = End::from_letter(letter(value)).context("--end wants C or O")?,
             Flag::Interleaver => {
-                self.interleaver = InterleaverKind::from_letter(letter(value)).ok_or(
+                self.interleaver = InterleaverKind::from_letter(letter(value)).context(
                     "--interleaver wants S or T",
                 )?;
             }

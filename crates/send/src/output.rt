@@ -1,5 +1,6 @@
 // The cells of the message, a line each, or the refusal in one line.
 use super::options::Options;
+use anyhow::anyhow;
 use coding::End;
 use qam::QamCell;
 use refusals::Refusal;
@@ -19,9 +20,9 @@ fn plan_of(options: &Options) -> Plan<End> {
 }
 
 /// A refusal as an error in one line.
-fn refused(heap: Global, refusal: Refusal) -> anyhow::Result<anyhow::Error> {
+fn refused(refusal: Refusal) -> anyhow::Error {
     let number = refusal.number();
-    Ok(format!(in heap; "refused {number}: {refusal}")?.into())
+    anyhow!("refused {number}: {refusal}")
 }
 
 /// The cells of the message's frame.
@@ -29,7 +30,7 @@ fn cells_of(heap: Global, options: &Options) -> anyhow::Result<Vec<QamCell>> {
     let plan = plan_of(options);
     let size = match frame_size(&plan, &options.code, &options.interleaver) {
         Ok(size) => size,
-        Err(refusal) => return Err(refused(heap, refusal)?),
+        Err(refusal) => return Err(refused(refusal)),
     };
     let blank = QamCell {
         in_phase: 0,
@@ -45,7 +46,7 @@ fn cells_of(heap: Global, options: &Options) -> anyhow::Result<Vec<QamCell>> {
         cells.as_mut_slice(),
     ) {
         Ok(()) => Ok(cells),
-        Err(refusal) => Err(refused(heap, refusal)?),
+        Err(refusal) => Err(refused(refusal)),
     }
 }
 

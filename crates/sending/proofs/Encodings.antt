@@ -1,7 +1,7 @@
 -- The steps of an encoder: inputs, states, positions and labels after each. Assumes nothing.
-use Rattle.std.proofs.Common.{◌≡◌, ℕ, zero, suc, ◌+◌, ◌-◌, ◌*◌, ◌/◌, ◌%◌, ◌<◌, ◌≤◌, Bool, true, false, cond, ltb, List, [], ◌∷◌, ◌++◌, length, get_or, take, sym, refl, ap, ◌∙◌, subst, inl, inr, mul_comm, arith}
+use Rattle.std.proofs.Common.{◌≡◌, ℕ, zero, suc, ◌+◌, ◌-◌, ◌*◌, ◌/◌, ◌<◌, ◌≤◌, cond, ltb, List, [], ◌∷◌, ◌++◌, length, get_or, take, sym, refl, ap, ◌∙◌, subst, inl, inr, mul_comm, arith}
 use native.Mathlib.Nat.{div-add-mod}
-use Rattle.std.proofs.lemmas.Nat.{mod_below, mul-lt}
+use Rattle.std.proofs.lemmas.Nat.{mod_below}
 use Rattle.std.proofs.ByRecursion.{All-get_or, All-take}
 use Rattle.std.proofs.lemmas.List.{append_assoc, append-nil, get_or_append_left, length-take-le, take_all, take_more}
 use Rattle.std.proofs.lemmas.Bool.{cases_lt, cond-false, cond-true, le-ltb, lt-ltb}
@@ -10,7 +10,7 @@ use Rattle.paths.specs.Codes.{Code}
 use Rattle.paths.specs.Paths.{Inputs, end_from, path_end}
 use Rattle.paths.specs.Endings.{Closer, Tail, Tail.unclosed, Tail.closed_by, TailLaws, closing, closing_input, closing_steps, tail_inputs}
 use Rattle.coding.specs.declared.puncture.Rate.{Rate}
-use Rattle.coding.specs.Puncturing.{sends_first, sends_second, sent_before}
+use Rattle.coding.specs.Puncturing.{sent_before}
 use Rattle.coding.specs.Encoding.{Coding, code_of, inputs_of, sent_at, sent_bits, sent_from, steps_for}
 use Rattle.coding.proofs.Sent.{all_bits, ends_inside, inputs_bits, inputs_size, sent_at_size, sent_from_size}
 use Rattle.interleaving.specs.Interleaving.{Interleaving, size}

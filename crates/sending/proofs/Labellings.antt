@@ -1,11 +1,11 @@
 -- Cells that hold labels: what one more sent bit changes. Assumes nothing.
-use Rattle.std.proofs.Common.{◌≡◌, ℕ, zero, suc, ◌+◌, ◌-◌, ◌*◌, ◌^◌, ◌<◌, ◌≤◌, Bool, true, false, cond, ltb, ◌≢◌, ◌⊎◌, List, [], ◌∷◌, ◌++◌, length, get_or, set, sym, refl, ap, ◌∙◌, subst, inl, inr, arith}
+use Rattle.std.proofs.Common.{◌≡◌, ℕ, ◌+◌, ◌-◌, ◌*◌, ◌^◌, ◌<◌, ltb, List, [], ◌∷◌, ◌++◌, length, get_or, set, sym, refl, ap, ◌∙◌, subst, inl, inr, arith}
 use Rattle.std.specs.List.{AllByRecursion as All}
 use Rattle.std.proofs.ByRecursion.{All-get_or, All-append}
-use Rattle.std.proofs.lemmas.List.{get_or_append_left, get_or-append_right, get_or_past, get_or_push, get_or-set_same, get_or-set_other, length-set, length_push}
+use Rattle.std.proofs.lemmas.List.{get_or_append_left, get_or_past, get_or_push, get_or-set_same, get_or-set_other, length-set, length_push}
 use Rattle.std.proofs.lemmas.Bool.{cases_lt, cases_eq, cases_order, cond-true, cond-false, lt-ltb, le-ltb}
 use Rattle.qam.specs.declared.cell.QamCell.{QamCell}
-use Rattle.interleaving.specs.Interleaving.{Interleaving, Sized, size}
+use Rattle.interleaving.specs.Interleaving.{Interleaving, size}
 use Rattle.interleaving.specs.Blocks.{Once, bit_of, cell_bits, cell_of, spot}
 use Rattle.sending.specs.Cells.{bit_at, in_phase_label, number_of, quadrature_label}
 use Rattle.sending.specs.Labelling.{Holds, Labels, holding, raised_to, with_bit}

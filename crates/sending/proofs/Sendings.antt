@@ -1,5 +1,5 @@
 -- What a granted send leaves: no row is met, and every position stands in its cell's label. Assumes nothing.
-use Rattle.std.proofs.Common.{◌≡◌, ℕ, suc, ◌+◌, ◌-◌, ◌*◌, ◌^◌, ◌<◌, ◌≤◌, Bool, true, false, cond, not, ◌&&◌, ltb, leb, List, [], ◌∷◌, ◌++◌, length, get_or, take, Some, None, Option, sym, refl, ap, ◌∙◌, subst, inl, inr, arith}
+use Rattle.std.proofs.Common.{◌≡◌, ℕ, suc, ◌+◌, ◌-◌, ◌^◌, ◌<◌, ◌≤◌, Bool, true, false, cond, not, ◌&&◌, ltb, leb, List, [], ◌∷◌, ◌++◌, length, get_or, take, Some, None, sym, refl, ap, ◌∙◌, subst, inl, inr, arith}
 use Rattle.std.specs.List.{AllByRecursion as All}
 use Rattle.std.proofs.lemmas.List.FromFn.{get_or-map-range_with_len, length-map-range_with_len}
 use Rattle.std.proofs.ByRecursion.{All-get_or}
@@ -7,17 +7,16 @@ use Rattle.std.proofs.lemmas.List.{get_or_append_left}
 use Rattle.std.proofs.lemmas.Bool.{and_from, and_parts, cases_lt, le-leb, le-ltb, lt-ltb, ltb-true, true≢false}
 use Rattle.qam.specs.declared.cell.QamCell.{QamCell}
 use Rattle.qam.specs.Levels.{bit_in, is_label, label, labelled, reading}
-use Rattle.qam.specs.Cells.{Carries, CellCarries, axis_of, bit_of_axis}
+use Rattle.qam.specs.Cells.{Carries, CellCarries}
 use Rattle.qam.proofs.Labels.{decodes}
 use Rattle.paths.specs.Paths.{Inputs}
 use Rattle.coding.specs.Encoding.{sent_bits}
 use Rattle.coding.proofs.Sent.{all_bits as bits_of, sent_bits_all}
-use Rattle.interleaving.specs.Interleaving.{Sized}
-use Rattle.interleaving.specs.Blocks.{bit_of, cell_bits, cell_of, spot}
+use Rattle.interleaving.specs.Blocks.{bit_of, cell_of, spot}
 use Rattle.interleaving.proofs.Spots.{every_position_once}
 use Rattle.refusals.specs.Numbers.{first_met}
-use Rattle.sending.specs.Links.{Link, Planned, blocks, cells, plan_refusal, plan_rows, positions}
-use Rattle.sending.specs.Cells.{at_levels, bit_at, cell_with, in_phase_label, number_of, quadrature_label, sent_cells}
+use Rattle.sending.specs.Links.{Link, Planned, blocks, cells, plan_refusal, plan_rows}
+use Rattle.sending.specs.Cells.{bit_at, cell_with, number_of, sent_cells}
 use Rattle.sending.specs.Sends.{Carried, all_bits, send_refusal}
 use Rattle.sending.proofs.Labellings.{bit_below, in_phase_below, quadrature_below}
 use Rattle.sending.proofs.Numbers.{number_digit}

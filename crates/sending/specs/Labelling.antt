@@ -1,5 +1,5 @@
 -- For the proof of the sender only: cells that hold labels on their axes, before these become levels. Assumes nothing.
-use Rattle.std.specs.Prelude.{◌≡◌, ℕ, ◌+◌, ◌-◌, ◌*◌, ◌^◌, ◌<◌, ◌≤◌, cond, List, length, take, ℤ, pos, nat_lt, slice_index_or}
+use Rattle.std.specs.Prelude.{◌≡◌, ℕ, ◌+◌, ◌-◌, ◌*◌, ◌^◌, ◌<◌, ◌≤◌, cond, List, length, take, pos, nat_lt, slice_index_or}
 use Rattle.std.specs.List.{AllByRecursion as All}
 use Rattle.qam.specs.declared.cell.QamCell.{QamCell}
 use Rattle.paths.specs.Paths.{path_end}

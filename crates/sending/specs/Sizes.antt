@@ -1,5 +1,5 @@
 -- What the sizes of a frame are. Assumes nothing.
-use Rattle.std.specs.Prelude.{◌≡◌, ℕ, Some, None, Ok, Err, Result}
+use Rattle.std.specs.Prelude.{◌≡◌, Some, None, Ok, Err, Result}
 use Rattle.refusals.specs.declared.Refusal.{Refusal}
 use Rattle.refusals.specs.Numbers.{number}
 use Rattle.sending.specs.declared.plan.FrameSize.{FrameSize}

@@ -1,4 +1,6 @@
 // The sender: a plan's sizes, and a message turned into the cells of its frame.
+#![tactic(auto)]
+
 mod encode;
 mod label;
 mod plan;

@@ -1,10 +1,10 @@
 -- near(c) is the squared distance of a nearest level whose label bit k is c. Assumes nothing.
-use Rattle.std.proofs.Common.{◌≡◌, ℕ, zero, suc, ◌^◌, ◌<◌, ◌≤◌, Bool, true, eqb, ◌⊎◌, ℤ, refl, inl, inr, arith}
+use Rattle.std.proofs.Common.{◌≡◌, ℕ, zero, suc, ◌^◌, ◌<◌, ◌≤◌, Bool, eqb, ◌⊎◌, refl, inl, inr, arith}
 use Rattle.std.proofs.lemmas.Bool.{eqb-true, eq-eqb}
 use Rattle.qam.specs.Levels.{Axis, BitOf, label_bit}
-use Rattle.softbits.specs.SoftBits.{apart, first_with, least, near}
+use Rattle.softbits.specs.SoftBits.{apart, first_with, near}
 use Rattle.softbits.specs.Theorems.{Nearest, AllNearest}
-use Rattle.softbits.proofs.Bits.{AtTen, by_bit}
+use Rattle.softbits.proofs.Bits.{by_bit}
 use Rattle.softbits.proofs.Leasts.{Met, first_below, least_below, least_met}
 
 -- the level that the search starts at has the bit

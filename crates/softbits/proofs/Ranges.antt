@@ -1,5 +1,5 @@
 -- The ranges of the demappings, and their zeros past the last bit. Assumes nothing.
-use Rattle.std.proofs.Common.{◌≡◌, ℕ, zero, suc, ◌<◌, ◌≤◌, Bool, true, false, cond, leb, ℤ, pos, negsuc, nat_abs, arith}
+use Rattle.std.proofs.Common.{◌≡◌, ℕ, zero, suc, ◌<◌, ◌≤◌, leb, ℤ, pos, negsuc, nat_abs, arith}
 use Rattle.std.proofs.lemmas.Bool.{cond_both, cond-false, leb-true, lt-leb}
 use Rattle.qam.specs.Levels.{Axis}
 use Rattle.softbits.specs.SoftBits.{Reading, exact, short, hard, hard_of, up_to}

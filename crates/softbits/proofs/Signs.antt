@@ -5,7 +5,6 @@ use Rattle.std.proofs.lemmas.Bool.{and_parts, leb-true}
 use Rattle.qam.specs.Levels.{Axis, BitOf, label_bit, reading}
 use Rattle.qam.proofs.Each.{every, every_at}
 use Rattle.softbits.specs.SoftBits.{Reading, exact, hard, hard_of}
-use Rattle.softbits.specs.Demapping.{Demapping}
 use Rattle.softbits.specs.Theorems.{SignsTell}
 use Rattle.softbits.proofs.Bits.{AtTen, by_bit}
 use Rattle.softbits.proofs.Values.{same, same_true}

@@ -1,5 +1,5 @@
 -- The facts of the soft bits pass at every reading: antt computes them, bit by bit. Assumes nothing.
-use Rattle.std.proofs.Common.{◌≡◌, ℕ, Bool, true, cond, ◌&&◌, eqb, leb, ℤ, pos, ◌-ℤ◌, ◌*ℤ◌, nat_abs, refl}
+use Rattle.std.proofs.Common.{ℕ, Bool, true, cond, ◌&&◌, eqb, leb, ℤ, pos, ◌-ℤ◌, ◌*ℤ◌, nat_abs, refl}
 use lib.Signed.{quot_z}
 use Rattle.qam.proofs.Each.{every}
 use Rattle.softbits.specs.SoftBits.{divisor, lead, short, hard_of}

@@ -1,5 +1,5 @@
 -- The facts of the soft bits, from the tests that pass. Assumes nothing.
-use Rattle.std.proofs.Common.{◌≡◌, ℕ, ◌≤◌, Bool, true, cond, ◌&&◌, eqb, leb, ℤ, pos, ◌-ℤ◌, ◌*ℤ◌, nat_abs, sym, refl, ◌∙◌, arith}
+use Rattle.std.proofs.Common.{◌≡◌, ℕ, ◌≤◌, true, cond, ◌&&◌, eqb, leb, ℤ, pos, ◌-ℤ◌, ◌*ℤ◌, nat_abs, sym, refl, ◌∙◌, arith}
 use Rattle.std.proofs.lemmas.Bool.{and_parts, cond-true, eq-eqb, leb-true}
 use Rattle.softbits.specs.SoftBits.{divisor, lead, exact, short, hard_of}
 use Rattle.softbits.specs.Theorems.{Bounded, Everywhere, NoRemainder, SameSign, SameAtLast}

@@ -1,4 +1,6 @@
 // Soft bits: specs/ says what they are, and the contracts here what holds of them at every reading.
+#![tactic(auto)]
+
 ghost use Rattle.softbits.specs.Examples.{WorkedSoftBits};
 ghost use Rattle.softbits.specs.SoftBits.{divisor, exact, near, short};
 ghost use Rattle.softbits.specs.Theorems.{AllNearest, Bounded, NoRemainder, SameAtLast, SameSign, SignsTell};

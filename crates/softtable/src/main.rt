@@ -1,4 +1,6 @@
 // Prints soft bits: exact, short and hard, with their gaps, as a table that gnuplot can draw.
+#![tactic(auto)]
+
 mod request;
 mod row;
 mod span;
@@ -6,6 +8,7 @@ mod span;
 use request::Request;
 use row::Row;
 use span::Span;
+use std::process::ExitCode;
 use std::{env, io};
 
 const HELP: &str = "usage: softtable M FROM [TO [STEP]]
@@ -31,15 +34,16 @@ fn table(rt: &impl Print, span: Span) -> io::Result<()> {
     Ok(())
 }
 
-fn main(rt: HostRuntime) -> io::Result<()> {
+fn main(rt: HostRuntime) -> io::Result<ExitCode> {
     let words: Vec<String> = env::args(&rt)?.skip(1).collect(rt.alloc())?;
     match Request::of(words.as_slice()) {
-        Ok(Request::Help) => rt.print(HELP),
-        Ok(Request::Version) => rt.println("softtable 0.1.0"),
-        Ok(Request::Table(span)) => table(&rt, span),
+        Ok(Request::Help) => rt.print(HELP)?,
+        Ok(Request::Version) => rt.println("softtable 0.1.0")?,
+        Ok(Request::Table(span)) => table(&rt, span)?,
         Err(fault) => {
             eprintln!(rt; "softtable: {fault}")?;
-            Err(io::Error::from(io::ErrorKind::InvalidInput))
+            return Ok(ExitCode::FAILURE);
         }
     }
+    Ok(ExitCode::SUCCESS)
 }

@@ -1,4 +1,6 @@
 // A message's total reckoned by itself, and the nearest message by a listing of all: what the search is held against.
+#![tactic(auto)]
+
 mod listing;
 mod reading;
 mod reckoning;

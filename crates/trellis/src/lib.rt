@@ -1,4 +1,6 @@
 // The nearest message: penalties, and the search through a trellis for the message of the least total.
+#![tactic(auto)]
+
 mod cost;
 mod penalty;
 mod search;

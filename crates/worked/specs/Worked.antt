@@ -1,10 +1,10 @@
 -- Worked numbers: what the definitions come to in examples that were reckoned apart from them. Assumes nothing.
-use Rattle.std.specs.Prelude.{◌≡◌, List, [], ◌∷◌}
+use Rattle.std.specs.Prelude.{◌≡◌, [], ◌∷◌}
 use Rattle.paths.specs.Endings.{Tail.closed_by}
 use Rattle.coding.specs.declared.puncture.Rate.TheVariants.{Half, ThreeQuarters}
 use Rattle.coding.specs.Encoding.{code_bits, inputs_of, sent_bits}
 use Rattle.coding.specs.Long.{long, long_closer, long_trellis}
-use Rattle.coding.specs.Recursive.{recursive, recursive_closer, recursive_trellis}
+use Rattle.coding.specs.Recursive.{recursive_closer, recursive_trellis}
 use Rattle.interleaving.specs.TwoStep.{two_step}
 use Rattle.softbits.specs.Examples.{WorkedSoftBits}
 use Rattle.trellis.specs.Worked.{WorkedTotals}

@@ -1,4 +1,6 @@
 // The worked numbers, gathered under one theorem over the definitions that the contracts use.
+#![tactic(auto)]
+
 ghost use Rattle.worked.specs.Worked.{Worked};
 
 use softbits::worked_soft_bits;

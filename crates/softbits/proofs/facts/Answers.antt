@@ -5,4 +5,4 @@ use Rattle.softbits.proofs.Signs.{signs_tell}
 use Rattle.softbits.proofs.facts.Goals as goal
 
 pub returns : goal.returns
-returns c = record { divides = no_remainder; range = exact_few; same_sign = same_sign; same-last = same_at_last; nearest = near_is_nearest; tell = signs_tell }
+returns c = record { divides = no_remainder; range = exact_few; same_sign = same_sign; same_last = same_at_last; nearest = near_is_nearest; tell = signs_tell }

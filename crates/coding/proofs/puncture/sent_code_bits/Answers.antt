@@ -32,4 +32,4 @@ seconds TwoThirds k = filled_up (second_row TwoThirds) (false ∷ []) k (omega a
 seconds ThreeQuarters k = filled_up (second_row ThreeQuarters) [] k (omega arith)
 
 pub returns : goal.returns
-returns c = record { first = c.row-at.ensures ∙ firsts c.args.rate c.args.step; second = c.row-at-2.ensures ∙ seconds c.args.rate c.args.step }
+returns c = record { first = c.row_at.ensures ∙ firsts c.args.rate c.args.step; second = c.row_at-2.ensures ∙ seconds c.args.rate c.args.step }

@@ -7,5 +7,5 @@ loop-number-preserved c = (
   simp length-set c.loop-number.invariant.0,
   below_more _ _
       (λ k h. let ne : k ≢ c.loop-number.number = omega arith in rw get_or-set_other (c.loop-number.invariant.1 k h))
-      (let lt : c.loop-number.number < length c.loop-number.t = omega arith in rw get_or-set_same c.square-at.ensures),
+      (let lt : c.loop-number.number < length c.loop-number.t = omega arith in rw get_or-set_same c.square_at.ensures),
 )

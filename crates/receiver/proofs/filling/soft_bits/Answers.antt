@@ -1,5 +1,5 @@
 -- `filling::soft_bits` meets its contract: widening a reading does not change it.
-use Rattle.std.proofs.Common.{◌≡◌, ℕ, ◌≤◌, List, get_or, ℤ, pos, nat_abs, sym, ap, ◌∙◌, subst, arith, w16, w32, SFits, to_z, of_z}
+use Rattle.std.proofs.Common.{◌≡◌, ◌≤◌, List, get_or, ℤ, pos, nat_abs, sym, subst, arith, w16, w32, SFits}
 use Rattle.std.proofs.lemmas.Int.{ints, to_z-of_z}
 use Rattle.softbits.specs.Demapping.{answers, soft_limit}
 use Rattle.receiver.proofs.Entering.{answer_small}

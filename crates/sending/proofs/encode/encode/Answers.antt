@@ -1,5 +1,5 @@
 -- `encode::encode` meets its contract: after k steps the cells hold the labels of what k steps send.
-use Rattle.std.proofs.Common.{◌≡◌, ◌+◌, ◌*◌, ◌<◌, ◌≤◌, cond, ltb, length, get_or, sym, ap, ◌∙◌, subst, arith}
+use Rattle.std.proofs.Common.{◌≡◌, ◌*◌, ◌<◌, ◌≤◌, cond, ltb, length, get_or, sym, ap, ◌∙◌, subst, arith}
 use Rattle.std.proofs.lemmas.Nat.{mul-lt}
 use Rattle.coding.specs.Encoding.{code_of, inputs_of, steps_for}
 use Rattle.coding.specs.Puncturing.{sent_before}
@@ -17,8 +17,8 @@ loop-step-init g c =
     let L = link_of c.args.plan (g.C.Code.trellis c.args.code) (g.E.Ending.tail c.args.plan.end c.args.code) (g.I.Interleaver.interleaving c.args.interleaver) in
     encoded_none L.coding c.args.message.now L.interleaving L.m L.B c.args.cells.now c.requires.blank
 
-pub input-at-input-requires : goal.input-at-input-requires
-input-at-input-requires g c =
+pub input_at-input-requires : goal.input_at-input-requires
+input_at-input-requires g c =
     let L = link_of c.args.plan (g.C.Code.trellis c.args.code) (g.E.Ending.tail c.args.plan.end c.args.code) (g.I.Interleaver.interleaving c.args.interleaver) in
     let ms = c.args.message.now in
     let l = c.loop-step in
@@ -26,19 +26,19 @@ input-at-input-requires g c =
     let whole : Inputs (length ms) ms = subst (λ n. Inputs n ms) (sym c.requires.message.size) c.requires.message in
     state_inside L.coding ms L.interleaving L.m L.B l.step l.state l.position l.cells l.invariant early c.requires.planned.ending whole
 
-pub encode-step-requires : goal.encode-step-requires
-encode-step-requires g c =
+pub encode_step-requires : goal.encode_step-requires
+encode_step-requires g c =
     let L = link_of c.args.plan (g.C.Code.trellis c.args.code) (g.E.Ending.tail c.args.plan.end c.args.code) (g.I.Interleaver.interleaving c.args.interleaver) in
     let Q = L.coding in
     let ms = c.args.message.now in
     let l = c.loop-step in
-    let v = c.input-at-input.result in
+    let v = c.input_at-input.result in
     let p = c.requires.planned in
     let few = c.requires.message.size in
     let early : l.step < steps_for Q (length ms) = omega (arith, c.requires.steps, few, c.loop-step-test.true) in
     let whole : Inputs (length ms) ms = subst (λ n. Inputs n ms) (sym few) c.requires.message in
     let is : v ≡ get_or (inputs_of Q ms) l.step 0 =
-    c.input-at-input.ensures ∙ ap (λ s. cond (ltb l.step (length ms)) (get_or ms l.step 0) (closing_input Q.tail s)) l.invariant.state_is ∙ sym (input_is Q ms l.step early) in
+    c.input_at-input.ensures ∙ ap (λ s. cond (ltb l.step (length ms)) (get_or ms l.step 0) (closing_input Q.tail s)) l.invariant.state_is ∙ sym (input_is Q ms l.step early) in
     let some : 0 < block L = omega (arith, mul-lt 0 0 (2 * L.m) L.B (omega (arith, p.sizes.some_bits)) p.sizes.some_cells) in
     let room : sent_before Q.rate (steps_for Q (length ms)) ≤ blocks L * size L.m L.B = subst (λ n. sent_before Q.rate (steps_for Q n) ≤ blocks L * block L) (sym few) (raised_over (sent L) (block L) some) in
     record {
@@ -55,12 +55,12 @@ loop-step-preserved g c =
     let Q = L.coding in
     let ms = c.args.message.now in
     let l = c.loop-step in
-    let v = c.input-at-input.result in
+    let v = c.input_at-input.result in
     let early : l.step < steps_for Q (length ms) = omega (arith, c.requires.steps, c.requires.message.size, c.loop-step-test.true) in
     let is : v ≡ get_or (inputs_of Q ms) l.step 0 =
-    c.input-at-input.ensures ∙ ap (λ s. cond (ltb l.step (length ms)) (get_or ms l.step 0) (closing_input Q.tail s)) l.invariant.state_is ∙ sym (input_is Q ms l.step early) in
-    encoded_more Q ms L.interleaving L.m L.B l.step l.state l.position l.cells l.invariant early v c.encode-step.result.0 c.encode-step.result.1 c.encode-step.new.cells
-    is c.encode-step.ensures.next c.encode-step.ensures.position c.encode-step.ensures.holds
+    c.input_at-input.ensures ∙ ap (λ s. cond (ltb l.step (length ms)) (get_or ms l.step 0) (closing_input Q.tail s)) l.invariant.state_is ∙ sym (input_is Q ms l.step early) in
+    encoded_more Q ms L.interleaving L.m L.B l.step l.state l.position l.cells l.invariant early v c.encode_step.result.0 c.encode_step.result.1 c.encode_step.new.cells
+    is c.encode_step.ensures.next c.encode_step.ensures.position c.encode_step.ensures.holds
 
 pub returns : goal.returns
 returns g c =

@@ -1,5 +1,4 @@
 -- `encode::encode`: the state, the position and the labels after each step.
-use Rattle.std.proofs.Common.{length}
 use Rattle.sending.specs.Labelling.{Encoded}
 use Rattle.sending.specs.Links.{link_of}
 use Rattle.sending.proofs.encode.encode.Given as goal

@@ -8,10 +8,10 @@ pub loop-cell-preserved : goal.loop-cell-preserved
 loop-cell-preserved c k d l =
     let i = c.loop-cell.cell-index in
     let xs = c.loop-cell.cells in
-    let y = c.blank-cell.result in
+    let y = c.blank_cell.result in
     let inside : i < length xs = omega arith in
     elim (cases_eq k i) [
-      | inl e ↦ ap (λ x. get_or (set xs i y) x d) e ∙ get_or-set_same xs i y d inside ∙ c.blank-cell.ensures
+      | inl e ↦ ap (λ x. get_or (set xs i y) x d) e ∙ get_or-set_same xs i y d inside ∙ c.blank_cell.ensures
       | inr n ↦ get_or-set_other xs i k y d n ∙ c.loop-cell.invariant k d (below n)
     ]
   where

@@ -1,13 +1,13 @@
 -- `label::cell_and_bit` meets its contract: a cell's number fits its type.
-use Rattle.std.proofs.Common.{◌+◌, ◌*◌, ◌/◌, ◌%◌, ◌<◌, ◌≤◌, div-le_self, div-mul-le_self, arith}
-use Rattle.std.proofs.lemmas.Nat.{mul-le, mul-lt, mod_below}
+use Rattle.std.proofs.Common.{◌*◌, ◌/◌, ◌%◌, ◌<◌, ◌≤◌, div-le_self, div-mul-le_self, arith}
+use Rattle.std.proofs.lemmas.Nat.{mul-le, mod_below}
 use Rattle.interleaving.proofs.Bounds.{size_le}
 use Rattle.sending.proofs.label.cell_and_bit.Goals as goal
 
-pub overflow-add-result : goal.overflow-add-result
-overflow-add-result g c =
+pub overflow_add-result : goal.overflow_add-result
+overflow_add-result g c =
     let m = c.args.bits in
-    let b = c.args.block-cells in
+    let b = c.args.block_cells in
     let j = c.args.position in
     let z = c.requires.sized in
     let X = g.I.Interleaver.interleaving c.args.interleaver.now in

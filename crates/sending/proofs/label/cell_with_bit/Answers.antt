@@ -1,5 +1,5 @@
 -- `label::cell_with_bit` meets its contract: labels of at most four bits are below 16.
-use Rattle.std.proofs.Common.{◌≡◌, ◌^◌, ◌<◌, ◌≤◌, ℤ, pos, ap, ◌∙◌, arith, to_z-of_z, w16, SFits}
+use Rattle.std.proofs.Common.{◌≡◌, ◌<◌, pos, ap, arith}
 use Rattle.std.proofs.lemmas.Int.{ints}
 use Rattle.qam.proofs.Axes.{levels_few}
 use Rattle.qam.specs.declared.cell.QamCell.{QamCell}

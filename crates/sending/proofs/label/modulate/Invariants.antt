@@ -1,5 +1,5 @@
 -- `label::modulate`: the cells so far are at their levels, and the others as they were.
-use Rattle.std.proofs.Common.{◌≡◌, ℕ, ◌<◌, ◌≤◌, length, get_or}
+use Rattle.std.proofs.Common.{◌≡◌, ℕ, ◌<◌, ◌≤◌, get_or}
 use Rattle.qam.specs.declared.cell.QamCell.{QamCell}
 use Rattle.sending.specs.Cells.{at_levels}
 use Rattle.sending.specs.Labelling.{holding}

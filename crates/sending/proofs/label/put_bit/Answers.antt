@@ -9,29 +9,29 @@ use Rattle.sending.proofs.Labellings.{holds_labels, holds_more}
 use Rattle.sending.proofs.Sizes.{no_cell}
 use Rattle.sending.proofs.label.put_bit.Goals as goal
 
-pub slice-copy-out·cell-with-bit : goal.slice-copy-out·cell-with-bit
-slice-copy-out·cell-with-bit g c =
+pub slice_copy_out-cell_with_bit : goal.slice_copy_out-cell_with_bit
+slice_copy_out-cell_with_bit g c =
     let t = c.requires.taking in
     let X = g.I.Interleaver.interleaving c.args.interleaver.now in
-    let once = every_position_once X c.args.bits c.args.block-cells t.blocks c.requires.sized c.requires.taken in
-    omega (arith, c.cell-and-bit-cell.ensures.cell, once.cell_inside c.args.position (omega (arith, t.room)), t.sized)
+    let once = every_position_once X c.args.bits c.args.block_cells t.blocks c.requires.sized c.requires.taken in
+    omega (arith, c.cell_and_bit-cell.ensures.cell, once.cell_inside c.args.position (omega (arith, t.room)), t.sized)
 
-pub offset-bounds-cells-cell : goal.offset-bounds-cells-cell
-offset-bounds-cells-cell g c = let inside = slice-copy-out·cell-with-bit g c in search rules
+pub offset_bounds-cells-cell : goal.offset_bounds-cells-cell
+offset_bounds-cells-cell g c = let inside = slice_copy_out-cell_with_bit g c in search rules
 
-pub cell-with-bit-requires : goal.cell-with-bit-requires
-cell-with-bit-requires g c =
+pub cell_with_bit-requires : goal.cell_with_bit-requires
+cell_with_bit-requires g c =
     let t = c.requires.taking in
     let X = g.I.Interleaver.interleaving c.args.interleaver.now in
     let m = c.args.bits in
-    let b = c.args.block-cells in
+    let b = c.args.block_cells in
     let once = every_position_once X m b t.blocks c.requires.sized c.requires.taken in
-    let k = c.cell-and-bit-cell.result.0 in
-    let inside : k < length c.args.cells.now = omega (arith, c.cell-and-bit-cell.ensures.cell, once.cell_inside c.args.position (omega (arith, t.room)), t.sized) in
+    let k = c.cell_and_bit-cell.result.0 in
+    let inside : k < length c.args.cells.now = omega (arith, c.cell_and_bit-cell.ensures.cell, once.cell_inside c.args.position (omega (arith, t.room)), t.sized) in
     record {
       axis = record { some = c.requires.sized.some_bits; few = c.requires.sized.few_bits };
       labels = holds_labels X m b t.before c.args.cells.now t.holds k no_cell inside;
-      inside = c.cell-and-bit-cell.ensures.inside;
+      inside = c.cell_and_bit-cell.ensures.inside;
       bit = c.requires.bit;
     }
 
@@ -39,27 +39,27 @@ pub bounds-cells-cell : goal.bounds-cells-cell
 bounds-cells-cell g c =
     let t = c.requires.taking in
     let X = g.I.Interleaver.interleaving c.args.interleaver.now in
-    let once = every_position_once X c.args.bits c.args.block-cells t.blocks c.requires.sized c.requires.taken in
-    omega (arith, c.cell-and-bit-cell.ensures.cell, once.cell_inside c.args.position (omega (arith, t.room)), t.sized)
+    let once = every_position_once X c.args.bits c.args.block_cells t.blocks c.requires.sized c.requires.taken in
+    omega (arith, c.cell_and_bit-cell.ensures.cell, once.cell_inside c.args.position (omega (arith, t.room)), t.sized)
 
-pub offset-bounds-cells-cell-2 : goal.offset-bounds-cells-cell-2
-offset-bounds-cells-cell-2 g c = let inside = bounds-cells-cell g c in search rules
+pub offset_bounds-cells-cell-2 : goal.offset_bounds-cells-cell-2
+offset_bounds-cells-cell-2 g c = let inside = bounds-cells-cell g c in search rules
 
 pub returns : goal.returns
 returns g c bs e h =
     let t = c.requires.taking in
     let X = g.I.Interleaver.interleaving c.args.interleaver.now in
     let m = c.args.bits in
-    let b = c.args.block-cells in
+    let b = c.args.block_cells in
     let xs = c.args.cells.now in
-    let y = c.cell-with-bit.result in
+    let y = c.cell_with_bit.result in
     let once = every_position_once X m b t.blocks c.requires.sized c.requires.taken in
-    let cell : c.cell-and-bit-cell.result.0 ≡ cell_of X m b (length bs) = c.cell-and-bit-cell.ensures.cell ∙ ap (cell_of X m b) (sym e) in
-    let bit : c.cell-and-bit-cell.result.1 ≡ bit_of X m b (length bs) = c.cell-and-bit-cell.ensures.bit ∙ ap (bit_of X m b) (sym e) in
+    let cell : c.cell_and_bit-cell.result.0 ≡ cell_of X m b (length bs) = c.cell_and_bit-cell.ensures.cell ∙ ap (cell_of X m b) (sym e) in
+    let bit : c.cell_and_bit-cell.result.1 ≡ bit_of X m b (length bs) = c.cell_and_bit-cell.ensures.bit ∙ ap (bit_of X m b) (sym e) in
     let room : length bs < t.blocks * size m b = omega (arith, t.room) in
     let inside : cell_of X m b (length bs) < length xs = omega (arith, once.cell_inside (length bs) room, t.sized) in
     let p = in_phase_label X m b bs (cell_of X m b (length bs)) in
     let q = quadrature_label X m b bs (cell_of X m b (length bs)) in
-    let held : get_or xs c.cell-and-bit-cell.result.0 no_cell ≡ holding p q = ap (λ x. get_or xs x no_cell) cell ∙ h.at (cell_of X m b (length bs)) no_cell inside in
-    let is : y ≡ with_bit m (bit_of X m b (length bs)) c.args.bit p q = c.cell-with-bit.ensures p q held ∙ ap (λ x. with_bit m x c.args.bit p q) bit in
+    let held : get_or xs c.cell_and_bit-cell.result.0 no_cell ≡ holding p q = ap (λ x. get_or xs x no_cell) cell ∙ h.at (cell_of X m b (length bs)) no_cell inside in
+    let is : y ≡ with_bit m (bit_of X m b (length bs)) c.args.bit p q = c.cell_with_bit.ensures p q held ∙ ap (λ x. with_bit m x c.args.bit p q) bit in
     subst (λ x. Holds X m b (bs ++ c.args.bit ∷ []) (set xs x y)) (sym cell) (holds_more X m b t.blocks once bs c.args.bit xs y room t.sized c.requires.bit h is)

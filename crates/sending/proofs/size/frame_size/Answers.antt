@@ -4,14 +4,14 @@ use Rattle.coding.proofs.Patterns.{sent_most}
 use Rattle.interleaving.proofs.Bounds.{size_le}
 use Rattle.sending.proofs.size.frame_size.Goals as goal
 
-pub overflow-add-positions : goal.overflow-add-positions
-overflow-add-positions g c =
+pub overflow_add-positions : goal.overflow_add-positions
+overflow_add-positions g c =
     let m = c.args.plan.now.bits_per_axis in
     let b = c.args.plan.now.block_cells in
-    omega (arith, c.sent-in-sent.ensures, sent_most c.args.plan.now.rate (c.args.plan.now.message_bits + c.closing_steps.result), size_le m b c.if-plan-gt4.false c.if-plan-gt64.false)
+    omega (arith, c.sent_in-sent.ensures, sent_most c.args.plan.now.rate (c.args.plan.now.message_bits + c.closing_steps.result), size_le m b c.if-plan-gt4.false c.if-plan-gt64.false)
 
-pub overflow-mul-positions : goal.overflow-mul-positions
-overflow-mul-positions g c =
+pub overflow_mul-positions : goal.overflow_mul-positions
+overflow_mul-positions g c =
     let m = c.args.plan.now.bits_per_axis in
     let b = c.args.plan.now.block_cells in
-    omega (arith, overflow-add-positions g c, div-mul-le_self (c.sent-in-sent.result + (2 * m * b - 1)) (2 * m * b))
+    omega (arith, overflow_add-positions g c, div-mul-le_self (c.sent_in-sent.result + (2 * m * b - 1)) (2 * m * b))

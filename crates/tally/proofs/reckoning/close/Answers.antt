@@ -21,14 +21,14 @@ loop-step-init g c =
       ap (total_from C M costs c.args.from c.args.state c.args.total) (ap (λ (n : ℕ). left_over C T n c.args.state) all ∙ all_left C T c.args.state),
     )
 
-pub reckon-step-requires : goal.reckon-step-requires
-reckon-step-requires g c =
+pub reckon_step-requires : goal.reckon_step-requires
+reckon_step-requires g c =
     let C = (g.C.Code.trellis c.args.code.now).code in
     let T = g.E.Ending.tail c.args.end.now c.args.code.now in
     let l = c.loop-step in
     record {
       state = l.invariant.1;
-      input = omega (arith, c.closing-input-input.ensures, closing_bit C T l.reached c.requires.lawful l.invariant.1);
+      input = omega (arith, c.closing_input-input.ensures, closing_bit C T l.reached c.requires.lawful l.invariant.1);
       short = omega (arith, c.requires.short, c.loop-step-test.true);
       bears = l.invariant.2;
     }
@@ -41,18 +41,18 @@ loop-step-preserved g c =
     let T = g.E.Ending.tail c.args.end.now c.args.code.now in
     let costs = costs_at c.args.rate (soft_at c.args.soft.now) in
     let l = c.loop-step in
-    let v = c.closing-input-input.result in
-    let s = c.reckon-step.result.0 in
+    let v = c.closing_input-input.result in
+    let s = c.reckon_step.result.0 in
     let n : ℕ = c.args.steps - (l.step + 1) in
-    let bit : v < 2 = omega (arith, c.closing-input-input.ensures, closing_bit C T l.reached c.requires.lawful l.invariant.1) in
+    let bit : v < 2 = omega (arith, c.closing_input-input.ensures, closing_bit C T l.reached c.requires.lawful l.invariant.1) in
     let more : c.args.steps - l.step ≡ suc n = omega (arith, c.loop-step-test.true) in
     let few : suc n ≤ closing_steps T = omega (arith, c.loop-step-test.true, c.requires.steps, l.invariant.0) in
     let next : l.step + 1 ≡ suc l.step = omega arith in (
       omega (arith, l.invariant.0),
-      omega (arith, c.reckon-step.ensures.next, R.lawful.stays l.reached v l.invariant.1 bit),
-      c.reckon-step.ensures.bears,
-      onward C M costs l.step (l.step + 1) l.reached s v l.sum c.reckon-step.result.1 (left_over C T n s) next c.reckon-step.ensures.next c.reckon-step.ensures.paid
-          ∙ ap (total_from C M costs l.step l.reached l.sum) (one_taken C T (c.args.steps - l.step) n l.reached s v more few c.closing-input-input.ensures c.reckon-step.ensures.next)
+      omega (arith, c.reckon_step.ensures.next, R.lawful.stays l.reached v l.invariant.1 bit),
+      c.reckon_step.ensures.bears,
+      onward C M costs l.step (l.step + 1) l.reached s v l.sum c.reckon_step.result.1 (left_over C T n s) next c.reckon_step.ensures.next c.reckon_step.ensures.paid
+          ∙ ap (total_from C M costs l.step l.reached l.sum) (one_taken C T (c.args.steps - l.step) n l.reached s v more few c.closing_input-input.ensures c.reckon_step.ensures.next)
           ∙ l.invariant.3,
     )
 

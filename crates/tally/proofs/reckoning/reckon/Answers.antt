@@ -37,15 +37,15 @@ loop-step-preserved g c =
     let l = c.loop-step in
     let k = l.step in
     let b = get_or ms k 0 in
-    let s = c.reckon-step.result.0 in
+    let s = c.reckon_step.result.0 in
     let rest = drop (k + 1) ms in
     let bit : b < 2 = omega (arith, c.if-input-gt1.false) in
     let next : k + 1 ≡ suc k = omega arith in (
       λ j h. elim (cases_lt j k) [ inl a ↦ l.invariant.0 j a | inr a ↦ let e : k ≡ j = omega arith in subst (λ (i : ℕ). get_or ms i 0 < 2) e bit ],
-      omega (arith, c.reckon-step.ensures.next, R.lawful.stays l.state b l.invariant.1 bit),
-      c.reckon-step.ensures.bears,
-      onward C M costs k (k + 1) l.state s b l.total c.reckon-step.result.1 (inputs_from C T s rest) next c.reckon-step.ensures.next c.reckon-step.ensures.paid
-          ∙ ap (λ (x : ℕ). total_from C M costs k l.state l.total (b ∷ inputs_from C T x rest)) c.reckon-step.ensures.next
+      omega (arith, c.reckon_step.ensures.next, R.lawful.stays l.state b l.invariant.1 bit),
+      c.reckon_step.ensures.bears,
+      onward C M costs k (k + 1) l.state s b l.total c.reckon_step.result.1 (inputs_from C T s rest) next c.reckon_step.ensures.next c.reckon_step.ensures.paid
+          ∙ ap (λ (x : ℕ). total_from C M costs k l.state l.total (b ∷ inputs_from C T x rest)) c.reckon_step.ensures.next
           ∙ sym (at_drop_more (λ (xs : List ℕ). total_from C M costs k l.state l.total (inputs_from C T l.state xs)) ms k 0 c.loop-step-test.true)
           ∙ l.invariant.3,
     )

@@ -3,5 +3,5 @@ use Rattle.std.proofs.Common.{arith}
 use Rattle.trellis.proofs.Counts.{sent_twice}
 use Rattle.tally.proofs.reckoning.reckon_step.Goals as goal
 
-pub overflow-add-after : goal.overflow-add-after
-overflow-add-after g c = record { fits = omega (arith, c.sent-in-position.ensures, sent_twice c.args.rate c.args.step, c.requires.short) }
+pub overflow_add-after : goal.overflow_add-after
+overflow_add-after g c = record { fits = omega (arith, c.sent_in-position.ensures, sent_twice c.args.rate c.args.step, c.requires.short) }

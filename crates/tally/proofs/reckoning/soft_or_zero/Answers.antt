@@ -1,5 +1,5 @@
 -- `reckoning::soft_or_zero` meets its contract: past the end the number is 0.
-use Rattle.std.proofs.Common.{pos, sym, arith}
+use Rattle.std.proofs.Common.{pos, sym}
 use Rattle.std.proofs.lemmas.List.{get_or_past}
 use Rattle.tally.proofs.reckoning.soft_or_zero.Goals as goal
 

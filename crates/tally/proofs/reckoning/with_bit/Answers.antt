@@ -16,6 +16,6 @@ returns-then-sent g c =
     let read = to_z-of_z w32 c.args.soft c.ranges.soft in
     let one : c.args.left + 1 ≡ suc c.args.left = omega arith in
     record {
-      is = c.add.ensures ∙ ap (M.add c.args.total) (c.penalty_at.ensures.is ∙ ap (λ x. penalty (limited x) c.args.bit) read) ∙ sent_when M c.args.total (penalty (limited c.args.soft) c.args.bit) c.args.sent c.if_sent.true;
+      is = c.add.ensures ∙ ap (M.add c.args.total) (c.penalty_at.ensures.is ∙ ap (λ x. penalty (limited x) c.args.bit) read) ∙ sent_when M c.args.total (penalty (limited c.args.soft) c.args.bit) c.args.sent c.if-sent.true;
       bears = subst (Bears M c.args.left) (sym c.add.ensures) (bears_add c.args.left c.penalty_at.result c.args.total c.penalty_at.ensures.light (subst (λ (n : ℕ). Bears M n c.args.total) one c.requires));
     }

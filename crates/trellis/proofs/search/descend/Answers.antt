@@ -9,5 +9,5 @@ use Rattle.trellis.proofs.search.descend.Goals as goal
 pub loop-step-preserved : goal.loop-step-preserved
 loop-step-preserved g c =
     let C = (g.C.Code.trellis c.args.code.now).code in
-    let here = c.entered-by-branch.ensures ∙ ap (λ b. arrival C b c.loop-step.state) c.is-marked.ensures in
-    (passes_down (g.C.Code.trellis c.args.code.now).lawful (bits_of c.args.decisions.now) c.args.steps c.args.end c.loop-step.step c.loop-step.state (branch_by c.entered-by-branch.result) (omega (arith, c.loop-step-test.true)) c.loop-step.invariant.0 here, omega (arith, c.loop-step-test.true), omega (arith, c.loop-step.invariant.2))
+    let here = c.entered_by-branch.ensures ∙ ap (λ b. arrival C b c.loop-step.state) c.is_marked.ensures in
+    (passes_down (g.C.Code.trellis c.args.code.now).lawful (bits_of c.args.decisions.now) c.args.steps c.args.end c.loop-step.step c.loop-step.state (branch_by c.entered_by-branch.result) (omega (arith, c.loop-step-test.true)) c.loop-step.invariant.0 here, omega (arith, c.loop-step-test.true), omega (arith, c.loop-step.invariant.2))

@@ -9,4 +9,4 @@ loop-state-preserved g c =
     let M = (g.O.Order.order c.args.order.now).metric in
     let totals = held M c.args.row.now c.args.reached in
     let s = c.loop-state.state in
-    subst (Found M totals (s + 1)) (sym c.bettered-best.ensures) (found_more (g.O.Order.order c.args.order.now).lawful totals c.args.states c.requires.bears s c.loop-state-test.true c.loop-state.best c.loop-state.invariant c.held-total.result (sym c.held-total.ensures))
+    subst (Found M totals (s + 1)) (sym c.bettered-best.ensures) (found_more (g.O.Order.order c.args.order.now).lawful totals c.args.states c.requires.bears s c.loop-state-test.true c.loop-state.best c.loop-state.invariant c.held_total.result (sym c.held_total.ensures))

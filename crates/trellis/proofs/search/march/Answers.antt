@@ -6,11 +6,11 @@ use Rattle.trellis.proofs.search.march.Goals as goal
 pub start-reached-requires : goal.start-reached-requires
 start-reached-requires g c =
     record {
-      table-size = c.requires.table-size;
+      table_size = c.requires.table_size;
       tabled = c.requires.tabled;
-      totals-size = c.requires.totals-size;
-      spare-size = c.requires.spare-size;
-      word = omega (arith, c.requires.some, c.requires.decisions-size);
+      totals_size = c.requires.totals_size;
+      spare_size = c.requires.spare_size;
+      word = omega (arith, c.requires.some, c.requires.decisions_size);
       room = omega (arith, sent_le c.args.rate 1 c.args.steps (omega (arith, c.requires.some)), c.requires.room);
     }
 
@@ -19,12 +19,12 @@ stride-halfway-requires g c =
     let k = c.loop-step.step in
     let below : k < c.args.steps = c.loop-step-test.true in
     record {
-      table-size = c.requires.table-size;
+      table_size = c.requires.table_size;
       tabled = c.requires.tabled;
-      old-size = omega (arith, c.requires.totals-size, c.loop-step.auto.totals, c.start-reached.auto.totals);
-      new-size = omega (arith, c.requires.spare-size, c.loop-step.auto.spare, c.start-reached.auto.spare);
+      old_size = omega (arith, c.requires.totals_size, c.loop-step.auto.totals, c.start-reached.auto.totals);
+      new_size = omega (arith, c.requires.spare_size, c.loop-step.auto.spare, c.start-reached.auto.spare);
       short = omega (arith, c.requires.short);
-      word = omega (arith, c.requires.decisions-size, c.loop-step.auto.decisions, c.start-reached.auto.decisions);
+      word = omega (arith, c.requires.decisions_size, c.loop-step.auto.decisions, c.start-reached.auto.decisions);
       room = omega (arith, sent_le c.args.rate (k + 1) c.args.steps (omega arith), c.requires.room);
       row = c.loop-step.invariant.2;
       words = c.loop-step.invariant.3;
@@ -36,12 +36,12 @@ stride-reached-requires g c =
     let below : k < c.args.steps = c.loop-step-test.true in
     let next : k + 1 < c.args.steps = omega (arith, c.loop-step.invariant.1) in
     record {
-      table-size = c.requires.table-size;
+      table_size = c.requires.table_size;
       tabled = c.requires.tabled;
-      old-size = omega (arith, c.requires.spare-size, c.loop-step.auto.spare, c.start-reached.auto.spare, c.stride-halfway.auto.new);
-      new-size = omega (arith, c.requires.totals-size, c.loop-step.auto.totals, c.start-reached.auto.totals);
+      old_size = omega (arith, c.requires.spare_size, c.loop-step.auto.spare, c.start-reached.auto.spare, c.stride-halfway.auto.new);
+      new_size = omega (arith, c.requires.totals_size, c.loop-step.auto.totals, c.start-reached.auto.totals);
       short = omega (arith, c.requires.short);
-      word = omega (arith, c.requires.decisions-size, c.loop-step.auto.decisions, c.start-reached.auto.decisions, c.stride-halfway.auto.decisions);
+      word = omega (arith, c.requires.decisions_size, c.loop-step.auto.decisions, c.start-reached.auto.decisions, c.stride-halfway.auto.decisions);
       room = omega (arith, sent_le c.args.rate (k + 1 + 1) c.args.steps (omega arith), c.requires.room);
       row = c.stride-halfway.ensures.row;
       words = c.stride-halfway.ensures.words;

@@ -17,9 +17,9 @@ returns-in-Ok g c =
     let totals = length c.args.totals.now in
     let spare = length c.args.spare.now in
     let message = length c.args.message.now in
-    let fits : K ≤ message = message_fits c.args.rate K (K + c.closing-steps-closing.result) c.states.result soft decisions totals spare message c.in-Ok.ensures in
+    let fits : K ≤ message = message_fits c.args.rate K (K + c.closing_steps-closing.result) c.states.result soft decisions totals spare message c.in-Ok.ensures in
     let z : K - 0 ≡ K = omega arith in
     record {
-      refusal = c.in-Ok.ensures ∙ ap (λ (i : ℕ). store_refusal c.args.rate K (K + i) c.states.result soft decisions totals spare message) c.closing-steps-closing.ensures.is ∙ ap (λ (i : ℕ). store_refusal c.args.rate K (K + closing_steps Q.tail) i soft decisions totals spare message) c.states.ensures;
+      refusal = c.in-Ok.ensures ∙ ap (λ (i : ℕ). store_refusal c.args.rate K (K + i) c.states.result soft decisions totals spare message) c.closing_steps-closing.ensures.is ∙ ap (λ (i : ℕ). store_refusal c.args.rate K (K + closing_steps Q.tail) i soft decisions totals spare message) c.states.ensures;
       nearest = in_front Q K (length (take (K - 0) c.args.message.now)) M (soft_at c.args.soft.now) c.args.message.now c.find.new.message _ c.find.result (ap (λ (i : ℕ). length (take i c.args.message.now)) z ∙ length-take-le K c.args.message.now fits) (ap (λ (i : ℕ). c.find.new.message ++ drop i c.args.message.now) z) c.find.ensures;
     }

@@ -13,14 +13,14 @@ stride-requires g c =
     let M = (g.O.Order.order c.args.order.now).metric in
     let costs = costs_at c.args.rate (soft_at c.args.soft.now) in
     record {
-      table-size = c.requires.table-size;
+      table_size = c.requires.table_size;
       tabled = c.requires.tabled;
-      old-size = omega (arith, length-set c.args.spare.now 0 c.zero.result, c.requires.spare-size);
-      new-size = c.requires.totals-size;
+      old_size = omega (arith, length-set c.args.spare.now 0 c.zero.result, c.requires.spare_size);
+      new_size = c.requires.totals_size;
       short = omega arith;
       word = c.requires.word;
       room = c.requires.room;
-      row = row_start M costs laws c.args.spare.now c.zero.result (omega (arith, laws.some, c.requires.spare-size)) c.zero.ensures;
+      row = row_start M costs laws c.args.spare.now c.zero.result (omega (arith, laws.some, c.requires.spare_size)) c.zero.ensures;
       words = words_none M costs laws c.args.decisions.now;
     }
 
@@ -32,6 +32,6 @@ returns-else-odd g c =
     let costs = costs_at c.args.rate (soft_at c.args.soft.now) in
     let even : ◌≡◌ {A = ℕ} (cond c.args.odd 1 0) 0 = ap (λ (b : Bool). cond b 1 0) c.if-odd.false in
     record {
-      row = subst (λ (n : ℕ). Row C M costs n (held M (set c.args.totals.now 0 c.zero-else-odd.result) 1)) (sym even) (row_start M costs laws c.args.totals.now c.zero-else-odd.result (omega (arith, laws.some, c.requires.totals-size)) c.zero-else-odd.ensures);
+      row = subst (λ (n : ℕ). Row C M costs n (held M (set c.args.totals.now 0 c.zero-else-odd.result) 1)) (sym even) (row_start M costs laws c.args.totals.now c.zero-else-odd.result (omega (arith, laws.some, c.requires.totals_size)) c.zero-else-odd.ensures);
       words = record { holds = λ k l. absurd (omega (arith, even)) };
     }

@@ -21,15 +21,15 @@ advance-mask-requires g c =
     let v = soft_at c.args.soft.now in
     let same : c.states.result ≡ C.states = c.states.ensures in
     let s : Setting C M (costs_at rate v) (width_at rate) = record { code = laws; order = (g.O.Order.order c.args.order.now).lawful; paid = costs_lawful v (all_limited c.args.soft.now) rate } in
-    let fits : most (width_at rate) k + cost_width c.step-cost-cost.result ≤ most_penalties = omega (arith, c.requires.short, most_sent rate k, sent_next rate k, sent_twice rate (k + 1), c.step-cost-cost.ensures.width) in
+    let fits : most (width_at rate) k + cost_width c.step_cost-cost.result ≤ most_penalties = omega (arith, c.requires.short, most_sent rate k, sent_next rate k, sent_twice rate (k + 1), c.step_cost-cost.ensures.width) in
     record {
       few = omega (arith, same, laws.few);
-      table-size = omega (arith, same, c.requires.table-size);
-      old-size = omega (arith, same, c.requires.old-size);
-      new-size = omega (arith, same, c.requires.new-size);
+      table_size = omega (arith, same, c.requires.table_size);
+      old_size = omega (arith, same, c.requires.old_size);
+      new_size = omega (arith, same, c.requires.new_size);
       inside = subst (λ (n : ℕ). ForksInside n c.args.table.now) (sym same) (forks_inside laws c.args.table.now c.requires.tabled);
-      light = c.step-cost-cost.ensures.light;
-      bears = λ i t l e. row_bears s (cost_width c.step-cost-cost.result) k fits (held M c.args.old.now c.args.reached) c.requires.row i t (omega (arith, same)) e;
+      light = c.step_cost-cost.ensures.light;
+      bears = λ i t l e. row_bears s (cost_width c.step_cost-cost.result) k fits (held M c.args.old.now c.args.reached) c.requires.row i t (omega (arith, same)) e;
     }
 
 pub returns : goal.returns
@@ -39,7 +39,7 @@ returns g c =
     let M = (g.O.Order.order c.args.order.now).metric in
     let costs = costs_at c.args.rate (soft_at c.args.soft.now) in
     let k = c.args.step in
-    let q = c.step-cost-cost.result in
+    let q = c.step_cost-cost.result in
     let table = c.args.table.now in
     let totals = held M c.args.old.now c.args.reached in
     let gives = λ (i : ℕ). fork_total M q totals (get_or table i no_fork) in
@@ -47,6 +47,6 @@ returns g c =
     let row : Holding M gives C.states c.advance-mask.new.new c.advance-mask.result.0 = subst (λ (n : ℕ). Holding M gives n c.advance-mask.new.new c.advance-mask.result.0) c.states.ensures c.advance-mask.ensures.row in
     let word : Marks tells C.states c.advance-mask.result.1 = subst (λ (n : ℕ). Marks tells n c.advance-mask.result.1) c.states.ensures c.advance-mask.ensures.word in
     record {
-      row = row_strides laws table c.requires.tabled M costs k q c.step-cost-cost.ensures.pays totals c.requires.row c.advance-mask.new.new c.advance-mask.result.0 row;
-      words = words_stride laws table c.requires.tabled M costs k q c.step-cost-cost.ensures.pays totals c.requires.row c.advance-mask.result.1 c.args.decisions.now c.requires.word c.requires.words word;
+      row = row_strides laws table c.requires.tabled M costs k q c.step_cost-cost.ensures.pays totals c.requires.row c.advance-mask.new.new c.advance-mask.result.0 row;
+      words = words_stride laws table c.requires.tabled M costs k q c.step_cost-cost.ensures.pays totals c.requires.row c.advance-mask.result.1 c.args.decisions.now c.requires.word c.requires.words word;
     }

@@ -12,8 +12,8 @@ loop-step-init g c = trace_starts (g.C.Code.trellis c.args.code.now).lawful (bit
 pub loop-step-preserved : goal.loop-step-preserved
 loop-step-preserved g c =
     let C = (g.C.Code.trellis c.args.code.now).code in
-    let here = c.entered-by-branch.ensures ∙ ap (λ b. arrival C b c.loop-step.state) c.is-marked.ensures in
-    trace_down (g.C.Code.trellis c.args.code.now).lawful (bits_of c.args.decisions.now) (length c.args.out.now) c.args.end c.loop-step.step c.loop-step.state c.loop-step.out (branch_by c.entered-by-branch.result) c.loop-step-test.true c.loop-step.auto.step c.loop-step.invariant here
+    let here = c.entered_by-branch.ensures ∙ ap (λ b. arrival C b c.loop-step.state) c.is_marked.ensures in
+    trace_down (g.C.Code.trellis c.args.code.now).lawful (bits_of c.args.decisions.now) (length c.args.out.now) c.args.end c.loop-step.step c.loop-step.state c.loop-step.out (branch_by c.entered_by-branch.result) c.loop-step-test.true c.loop-step.auto.step c.loop-step.invariant here
 
 pub returns : goal.returns
 returns g c =

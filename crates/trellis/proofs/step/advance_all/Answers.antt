@@ -9,8 +9,8 @@ use Rattle.trellis.proofs.Falling.{Falling, all_given, falling_holds, falling_ma
 use Rattle.trellis.proofs.step.advance_all.Goals as goal
 use Rattle.trellis.proofs.step.advance_all.Goals.{then-second, else-second}
 
-pub paid-both-lower-requires : goal.paid-both-lower-requires
-paid-both-lower-requires g c =
+pub paid_both-lower-requires : goal.paid_both-lower-requires
+paid_both-lower-requires g c =
     let M = (g.O.Order.order c.args.order.now).metric in
     let s = c.loop-state.state - 1 in
     let w = (get_or c.args.table.now s no_fork).lower in
@@ -18,11 +18,11 @@ paid-both-lower-requires g c =
     record {
       two_bits = inside.two_bits;
       light = c.requires.light;
-      bears = c.requires.bears w.from c.index-old-fork.result inside.from_state (read_held M c.args.cost.now c.args.old.now c.args.reached c.args.states c.requires.all w.from c.index-old-fork.result inside.from_state c.requires.old-size c.index-old-fork.is);
+      bears = c.requires.bears w.from c.index-old-fork.result inside.from_state (read_held M c.args.cost.now c.args.old.now c.args.reached c.args.states c.requires.all w.from c.index-old-fork.result inside.from_state c.requires.old_size c.index-old-fork.is);
     }
 
-pub paid-both-higher-requires : goal.paid-both-higher-requires
-paid-both-higher-requires g c =
+pub paid_both-higher-requires : goal.paid_both-higher-requires
+paid_both-higher-requires g c =
     let M = (g.O.Order.order c.args.order.now).metric in
     let s = c.loop-state.state - 1 in
     let w = (get_or c.args.table.now s no_fork).higher in
@@ -30,11 +30,11 @@ paid-both-higher-requires g c =
     record {
       two_bits = inside.two_bits;
       light = c.requires.light;
-      bears = c.requires.bears w.from c.index-old-fork-in-loop-state.result inside.from_state (read_held M c.args.cost.now c.args.old.now c.args.reached c.args.states c.requires.all w.from c.index-old-fork-in-loop-state.result inside.from_state c.requires.old-size c.index-old-fork-in-loop-state.is);
+      bears = c.requires.bears w.from c.index-old-fork-in-loop-state.result inside.from_state (read_held M c.args.cost.now c.args.old.now c.args.reached c.args.states c.requires.all w.from c.index-old-fork-in-loop-state.result inside.from_state c.requires.old_size c.index-old-fork-in-loop-state.is);
     }
 
-pub is-higher-taken-second-requires : goal.is-higher-taken-second-requires
-is-higher-taken-second-requires g c =
+pub is_higher_taken-second-requires : goal.is_higher_taken-second-requires
+is_higher_taken-second-requires g c =
     let M = (g.O.Order.order c.args.order.now).metric in
     let s = c.loop-state.state - 1 in
     let q = c.args.cost.now in
@@ -42,11 +42,11 @@ is-higher-taken-second-requires g c =
     let inside = c.requires.inside s (omega (arith, c.loop-state-test.true, c.loop-state.auto.state)) in
     let x = c.index-old-fork.result in
     let y = c.index-old-fork-in-loop-state.result in
-    let bx = c.requires.bears f.lower.from x inside.0.from_state (read_held M q c.args.old.now c.args.reached c.args.states c.requires.all f.lower.from x inside.0.from_state c.requires.old-size c.index-old-fork.is) in
-    let by = c.requires.bears f.higher.from y inside.1.from_state (read_held M q c.args.old.now c.args.reached c.args.states c.requires.all f.higher.from y inside.1.from_state c.requires.old-size c.index-old-fork-in-loop-state.is) in
+    let bx = c.requires.bears f.lower.from x inside.0.from_state (read_held M q c.args.old.now c.args.reached c.args.states c.requires.all f.lower.from x inside.0.from_state c.requires.old_size c.index-old-fork.is) in
+    let by = c.requires.bears f.higher.from y inside.1.from_state (read_held M q c.args.old.now c.args.reached c.args.states c.requires.all f.higher.from y inside.1.from_state c.requires.old_size c.index-old-fork-in-loop-state.is) in
     record {
-      higher = subst (Bears M 0) (sym c.paid-both-higher.ensures) (bears_both q f.higher.bits y inside.1.two_bits c.requires.light by);
-      lower = subst (Bears M 0) (sym c.paid-both-lower.ensures) (bears_both q f.lower.bits x inside.0.two_bits c.requires.light bx);
+      higher = subst (Bears M 0) (sym c.paid_both-higher.ensures) (bears_both q f.higher.bits y inside.1.two_bits c.requires.light by);
+      lower = subst (Bears M 0) (sym c.paid_both-lower.ensures) (bears_both q f.lower.bits x inside.0.two_bits c.requires.light bx);
     }
 
 pub loop-state-preserved : goal.loop-state-preserved
@@ -58,22 +58,22 @@ loop-state-preserved g c =
     let j = c.loop-state.state in
     let f = get_or table (j - 1) no_fork in
     let inside = c.requires.inside (j - 1) (omega (arith, c.loop-state-test.true, c.loop-state.auto.state)) in
-    let t = c.paid-both-lower.result in
-    let u = c.paid-both-higher.result in
-    let a = read_carried M q c.args.old.now c.args.reached c.args.states c.requires.all f.lower c.index-old-fork.result t inside.0.from_state c.requires.old-size c.index-old-fork.is c.paid-both-lower.ensures in
-    let b = read_carried M q c.args.old.now c.args.reached c.args.states c.requires.all f.higher c.index-old-fork-in-loop-state.result u inside.1.from_state c.requires.old-size c.index-old-fork-in-loop-state.is c.paid-both-higher.ensures in
+    let t = c.paid_both-lower.result in
+    let u = c.paid_both-higher.result in
+    let a = read_carried M q c.args.old.now c.args.reached c.args.states c.requires.all f.lower c.index-old-fork.result t inside.0.from_state c.requires.old_size c.index-old-fork.is c.paid_both-lower.ensures in
+    let b = read_carried M q c.args.old.now c.args.reached c.args.states c.requires.all f.higher c.index-old-fork-in-loop-state.result u inside.1.from_state c.requires.old_size c.index-old-fork-in-loop-state.is c.paid_both-higher.ensures in
     let gives = λ (i : ℕ). fork_total M q totals (get_or table i no_fork) in
     let tells = λ (i : ℕ). fork_higher M q totals (get_or table i no_fork) in
-    let second = c.is-higher-taken-second.result in
-    let bit = higher_is M q totals f (Some t) (Some u) a b second c.is-higher-taken-second.ensures in
+    let second = c.is_higher_taken-second.result in
+    let bit = higher_is M q totals f (Some t) (Some u) a b second c.is_higher_taken-second.ensures in
     let pick : Some c.if-second.new ≡ cond second (Some u) (Some t) =
     elim c.if-second.branch [
       | then-second w ↦ ap Some w.new-is ∙ ap (λ (x : Bool). cond x (Some u) (Some t)) (sym w.if-second.true)
       | else-second w ↦ ap Some w.new-is ∙ ap (λ (x : Bool). cond x (Some u) (Some t)) (sym w.if-second.false)
     ] in
-    let value = total_is M q totals f (Some t) (Some u) a b second c.is-higher-taken-second.ensures (Some c.if-second.new) pick in
-    let room : c.args.states ≤ length c.loop-state.new = omega (arith, c.requires.new-size, c.loop-state.auto.new) in
-    subst (Falling M gives tells c.args.states (j - 1) (set c.loop-state.new (j - 1) c.if-second.new)) (sym c.shifted-in-word.ensures)
+    let value = total_is M q totals f (Some t) (Some u) a b second c.is_higher_taken-second.ensures (Some c.if-second.new) pick in
+    let room : c.args.states ≤ length c.loop-state.new = omega (arith, c.requires.new_size, c.loop-state.auto.new) in
+    subst (Falling M gives tells c.args.states (j - 1) (set c.loop-state.new (j - 1) c.if-second.new)) (sym c.shifted_in-word.ensures)
     (falling_more M gives tells c.args.states j c.loop-state.new c.loop-state.word c.if-second.new second c.loop-state-test.true c.loop-state.auto.state room c.loop-state.invariant (sym value) bit)
 
 pub returns : goal.returns

@@ -1,7 +1,7 @@
 -- `step::advance_some` meets its contract: each turn gives one state its total, and one bit of either word.
 use Rattle.std.proofs.Common.{◌≡◌, ℕ, ◌+◌, ◌^◌, ◌<◌, Bool, cond, length, get_or, is_some, sym, ap, ◌∙◌, subst, arith}
 use lib.Bits.{bit_or}
-use Rattle.paths.specs.Rows.{Holding, Marks, held, kept}
+use Rattle.paths.specs.Rows.{Holding, Marks, held}
 use Rattle.paths.proofs.Rows.{holding_none, holding_more}
 use Rattle.paths.proofs.Marking.{marks_none, marks_more}
 use Rattle.trellis.specs.Steps.{fork_total, fork_higher, no_fork}
@@ -15,8 +15,8 @@ loop-state-init g c =
     let totals = held M c.args.old.now c.args.reached in
     (holding_none M (λ s. fork_total M c.args.cost.now totals (get_or c.args.table.now s no_fork)) c.args.new.now, marks_none (λ s. fork_higher M c.args.cost.now totals (get_or c.args.table.now s no_fork)))
 
-pub second-is-taken-second-requires : goal.second-is-taken-second-requires
-second-is-taken-second-requires g c =
+pub second_is_taken-second-requires : goal.second_is_taken-second-requires
+second_is_taken-second-requires g c =
     let M = (g.O.Order.order c.args.order.now).metric in
     let totals = held M c.args.old.now c.args.reached in
     let f = get_or c.args.table.now c.loop-state.state no_fork in
@@ -38,18 +38,18 @@ loop-state-preserved g c =
     let o = c.if-second.total in
     let gives = λ (i : ℕ). fork_total M q totals (get_or c.args.table.now i no_fork) in
     let tells = λ (i : ℕ). fork_higher M q totals (get_or c.args.table.now i no_fork) in
-    let bit = higher_is M q totals f a b c.brought-lower.ensures c.brought-higher.ensures c.second-is-taken-second.result c.second-is-taken-second.ensures in
-    let pick : o ≡ cond c.second-is-taken-second.result b a =
+    let bit = higher_is M q totals f a b c.brought-lower.ensures c.brought-higher.ensures c.second_is_taken-second.result c.second_is_taken-second.ensures in
+    let pick : o ≡ cond c.second_is_taken-second.result b a =
     elim c.if-second.branch [
-      | then-second w ↦ w.total_is ∙ ap (λ (x : Bool). cond x b a) (sym w.if-second.true)
-      | else-second w ↦ w.total_is ∙ ap (λ (x : Bool). cond x b a) (sym w.if-second.false)
+      | then-second w ↦ w.total-is ∙ ap (λ (x : Bool). cond x b a) (sym w.if-second.true)
+      | else-second w ↦ w.total-is ∙ ap (λ (x : Bool). cond x b a) (sym w.if-second.false)
     ] in
-    let value = total_is M q totals f a b c.brought-lower.ensures c.brought-higher.ensures c.second-is-taken-second.result c.second-is-taken-second.ensures o pick in
-    let room : s < length c.loop-state.new = omega (arith, c.loop-state-test.true, c.requires.new-size, c.loop-state.auto.new) in
+    let value = total_is M q totals f a b c.brought-lower.ensures c.brought-higher.ensures c.second_is_taken-second.result c.second_is_taken-second.ensures o pick in
+    let room : s < length c.loop-state.new = omega (arith, c.loop-state-test.true, c.requires.new_size, c.loop-state.auto.new) in
     let more = holding_more M gives s c.loop-state.new c.loop-state.mask o c.loop-state.invariant.0 room value in
-    let mask : c.marked-mask.result ≡ cond (is_some o) (bit_or c.loop-state.mask (2 ^ s)) c.loop-state.mask = c.marked-mask.ensures ∙ ap (λ (x : Bool). cond x (bit_or c.loop-state.mask (2 ^ s)) c.loop-state.mask) c.is-some.ensures in (
+    let mask : c.marked-mask.result ≡ cond (is_some o) (bit_or c.loop-state.mask (2 ^ s)) c.loop-state.mask = c.marked-mask.ensures ∙ ap (λ (x : Bool). cond x (bit_or c.loop-state.mask (2 ^ s)) c.loop-state.mask) c.is_some.ensures in (
       subst (λ (m : ℕ). Holding M gives (s + 1) c.keep.new.row m) (sym mask) (subst (λ row. Holding M gives (s + 1) row (cond (is_some o) (bit_or c.loop-state.mask (2 ^ s)) c.loop-state.mask)) (sym c.keep.ensures) more),
-      subst (Marks tells (s + 1)) (sym c.marked-word.ensures) (marks_more tells s c.loop-state.word c.second-is-taken-second.result c.loop-state.invariant.1 bit),
+      subst (Marks tells (s + 1)) (sym c.marked-word.ensures) (marks_more tells s c.loop-state.word c.second_is_taken-second.result c.loop-state.invariant.1 bit),
     )
 
 pub returns : goal.returns

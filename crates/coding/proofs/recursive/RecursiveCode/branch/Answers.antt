@@ -3,8 +3,8 @@ use Rattle.std.proofs.Common.{arith}
 use Rattle.coding.proofs.Bounds.{fed_back_bit}
 use Rattle.coding.proofs.recursive.RecursiveCode.branch.Goals as goal
 
-pub overflow-mul-result : goal.overflow-mul-result
-overflow-mul-result c = omega (arith, fed_back_bit c.args.state c.args.input c.requires.state c.requires.input)
+pub overflow_mul-result : goal.overflow_mul-result
+overflow_mul-result c = omega (arith, fed_back_bit c.args.state c.args.input c.requires.state c.requires.input)
 
-pub overflow-add-result : goal.overflow-add-result
-overflow-add-result c = omega (arith, fed_back_bit c.args.state c.args.input c.requires.state c.requires.input)
+pub overflow_add-result : goal.overflow_add-result
+overflow_add-result c = omega (arith, fed_back_bit c.args.state c.args.input c.requires.state c.requires.input)

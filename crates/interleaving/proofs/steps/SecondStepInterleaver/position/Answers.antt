@@ -4,12 +4,12 @@ use Rattle.interleaving.specs.StepLaws.{cut, column_le}
 use Rattle.interleaving.proofs.Bounds.{product_le, size_le}
 use Rattle.interleaving.proofs.steps.SecondStepInterleaver.position.Goals as goal
 
-pub overflow-mul-result-2 : goal.overflow-mul-result-2
-overflow-mul-result-2 c =
+pub overflow_mul-result-2 : goal.overflow_mul-result-2
+overflow_mul-result-2 c =
     let k = cut c.args.self.now.columns c.args.bits c.args.cells c.requires.sized.some_cells c.requires.taken in
     omega (arith, product_le _ _ _ c.args.place k c.requires.sized.some_bits c.requires.sized.few_bits c.requires.sized.few_cells c.requires.within)
 
-pub overflow-add-result : goal.overflow-add-result
-overflow-add-result c =
+pub overflow_add-result : goal.overflow_add-result
+overflow_add-result c =
     let k = cut c.args.self.now.columns c.args.bits c.args.cells c.requires.sized.some_cells c.requires.taken in
     omega (arith, column_le _ _ _ c.args.place k c.requires.within, size_le c.args.bits c.args.cells c.requires.sized.few_bits c.requires.sized.few_cells)

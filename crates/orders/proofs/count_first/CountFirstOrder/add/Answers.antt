@@ -4,10 +4,10 @@ use Rattle.orders.proofs.Bounds.{counts_bound}
 use Rattle.orders.proofs.count_first.CountFirstOrder.add.Goals as goal
 use Rattle.orders.proofs.count_first.CountFirstOrder.add.Goals.{then-penalty-gt0, else-penalty-gt0}
 
-pub overflow-add-result : goal.overflow-add-result
-overflow-add-result c =
+pub overflow_add-result : goal.overflow_add-result
+overflow_add-result c =
     let b = counts_bound c.requires.bears.reached in
     elim c.if-penalty-gt0.branch [ then-penalty-gt0 w ↦ omega (arith, w.paid-is, c.requires.bears.room) | else-penalty-gt0 w ↦ omega (arith, w.paid-is, c.requires.bears.room) ]
 
-pub overflow-add-result-2 : goal.overflow-add-result-2
-overflow-add-result-2 c = let b = counts_bound c.requires.bears.reached in omega (arith, c.requires.light, c.requires.bears.room)
+pub overflow_add-result-2 : goal.overflow_add-result-2
+overflow_add-result-2 c = let b = counts_bound c.requires.bears.reached in omega (arith, c.requires.light, c.requires.bears.room)

@@ -3,5 +3,5 @@ use Rattle.std.proofs.Common.{arith}
 use Rattle.orders.proofs.Bounds.{sum_bound}
 use Rattle.orders.proofs.sum.SumOrder.add.Goals as goal
 
-pub overflow-add-result : goal.overflow-add-result
-overflow-add-result c = omega (arith, c.requires.light, c.requires.bears.room, sum_bound c.requires.bears.reached)
+pub overflow_add-result : goal.overflow_add-result
+overflow_add-result c = omega (arith, c.requires.light, c.requires.bears.room, sum_bound c.requires.bears.reached)

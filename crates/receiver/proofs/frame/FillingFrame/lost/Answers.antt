@@ -1,9 +1,8 @@
 -- `FillingFrame::lost` meets its contract: the frame has room for the cell.
-use Rattle.std.proofs.Common.{◌≡◌, ℕ, zero, suc, ◌*◌, ◌<◌, ◌≤◌, [], ◌∷◌, length, get_or, ℤ, pos, nat_abs, ap, arith}
-use Rattle.interleaving.specs.Interleaving.{size}
+use Rattle.std.proofs.Common.{ℕ, zero, suc, ◌*◌, ◌<◌, ◌≤◌, [], ◌∷◌, length, get_or, pos, nat_abs, ap, arith}
 use Rattle.softbits.specs.Demapping.{soft_limit}
 use Rattle.sending.specs.declared.plan.FrameSize.{FrameSize}
-use Rattle.sending.specs.Links.{blocks, cells, positions}
+use Rattle.sending.specs.Links.{blocks, positions}
 use Rattle.sending.proofs.Sizes.{cells_are}
 use Rattle.receiver.specs.Frames.{reception_of}
 use Rattle.receiver.proofs.frame.FillingFrame.lost.Goals as goal
@@ -22,4 +21,4 @@ lay-requires g c =
     let p = granted.planned in
     let room : positions L ≤ length c.args.soft.now = omega (arith, ap (λ (z : FrameSize). z.positions) granted.sizes, c.if-soft-size.false) in
     let inside : c.args.self.now.taken < blocks L * L.B = omega (arith, ap (λ (z : FrameSize). z.cells) granted.sizes, c.if-self-size.false, cells_are L p) in
-    record { sized = p.sizes; taken = p.taken; room = (blocks L, room, inside); light = omega arith; small-p = zeros_small; small-q = zeros_small }
+    record { sized = p.sizes; taken = p.taken; room = (blocks L, room, inside); light = omega arith; small_p = zeros_small; small_q = zeros_small }

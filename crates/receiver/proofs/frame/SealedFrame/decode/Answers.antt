@@ -1,5 +1,5 @@
 -- `SealedFrame::decode` meets its contract: the search does.
-use Rattle.std.proofs.Common.{◌≡◌, ◌≤◌, length, sym, refl, ap, ◌∙◌, arith}
+use Rattle.std.proofs.Common.{◌≤◌, length, sym, refl, ap, ◌∙◌, arith}
 use Rattle.refusals.specs.Numbers.{number}
 use Rattle.sending.specs.declared.plan.FrameSize.{FrameSize}
 use Rattle.sending.specs.Links.{plan_rows, positions}
@@ -26,5 +26,5 @@ returns g c =
     let d = length c.args.spare.now in
     let e = length c.args.message.now in
     let whole : positions L ≤ n = omega (arith, ap (λ (z : FrameSize). z.positions) granted.sizes, c.if-soft-size.false) in
-    decoded_from L (asked L (decode_rows L n a b d e)) (g.O.Order.order c.args.order.now).metric (soft_at c.args.soft.now) c.args.decisions.now c.nearest-message.new.decisions c.args.totals.now c.nearest-message.new.totals c.args.spare.now c.nearest-message.new.spare c.args.message.now c.nearest-message.new.message c.nearest-message.result
-    (c.nearest-message.ensures.refusal ∙ sym (same_rows L granted.planned n a b d e granted.no_row whole)) c.nearest-message.ensures.nearest
+    decoded_from L (asked L (decode_rows L n a b d e)) (g.O.Order.order c.args.order.now).metric (soft_at c.args.soft.now) c.args.decisions.now c.nearest_message.new.decisions c.args.totals.now c.nearest_message.new.totals c.args.spare.now c.nearest_message.new.spare c.args.message.now c.nearest_message.new.message c.nearest_message.result
+    (c.nearest_message.ensures.refusal ∙ sym (same_rows L granted.planned n a b d e granted.no_row whole)) c.nearest_message.ensures.nearest
