@@ -6,6 +6,7 @@ usage: python3 tools/respell.py [--list]      at the top of the repository, once
 A name that specs/ or proofs/ declare with a dash gets underscores, and upper camel case where it begins with a capital (a type or a fact):
 `closing-steps` becomes `closing_steps`, `Code-laws` becomes `CodeLaws`. Whole words alone turn: in .antt files and in the clauses and ghost
 items of .rt files, but for comments and strings; in must-fail edits; and in the code spans of comments, README.md and docs/*.md.
+An import's own name behind `as` turns in its file, and `AllByRecursion as All` is `AllByRecursion`, since All is another word of the library.
 The names that Rattle makes for goals and steps stay, and so does a name in a file that imports it from a library.
 A name that would meet another is listed on a line that begins `meets:`, and then nothing is written.
 """
@@ -87,6 +88,19 @@ def of_library(text, crates):
     return found
 
 
+def aliases(text):
+    """What a file calls its imports, where that has a dash."""
+    names = [n for m in USE.finditer(text) for n in re.findall(r" as ([^\s,}]+)", m[2])]
+    return {n: respelled(n) for n in names if "-" in n}
+
+
+def without_all(text):
+    if not re.search(r"AllByRecursion as All(?=[,}])", text):
+        return text
+    text = re.sub(r"AllByRecursion as All(?=[,}])", "AllByRecursion", text)
+    return re.sub(r"(?<![\w'.·-])All(?![\w'-])", "AllByRecursion", text)
+
+
 def turn(text, pattern, rows, keep, comment):
     def one(m):
         word = m[0]
@@ -117,7 +131,7 @@ def main():
     changed = 0
     for path, pattern, comment in jobs:
         old = read(path)
-        new = turn(old, pattern, rows, of_library(old, crates), comment)
+        new = without_all(turn(old, pattern, rows | aliases(old), of_library(old, crates), comment))
         if new != old:
             changed += 1
             with open(path, "w", encoding="utf-8") as f:

@@ -1,6 +1,6 @@
 -- Inputs and sent bits are bits, and how many there are. Assumes nothing.
 use Rattle.std.proofs.Common.{◌≡◌, ℕ, zero, suc, ◌+◌, ◌<◌, ◌≤◌, Bool, true, false, cond, List, [], ◌∷◌, length, refl, ap, ◌∙◌, arith, length-append}
-use Rattle.std.specs.List.{AllByRecursion as All}
+use Rattle.std.specs.List.{AllByRecursion}
 use Rattle.std.proofs.ByRecursion.{All-get_or, All-from_get_or, All-append}
 use Rattle.paths.specs.Codes.{Code, CodeLaws}
 use Rattle.paths.specs.Paths.{Inputs, end_from, path_end}
@@ -9,7 +9,7 @@ use Rattle.coding.specs.Puncturing.{sends_first, sends_second, sent_before}
 use Rattle.coding.specs.Encoding.{Coding, MessagesWellSent, code_of, if_sent, inputs_of, sent_at, sent_bits, sent_from, steps_for}
 
 abbrev pub AllBits : List ℕ → Type 0
-AllBits = All (λ b. b < 2)
+AllBits = AllByRecursion (λ b. b < 2)
 
 -- ---- inputs
 

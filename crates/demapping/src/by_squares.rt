@@ -2,7 +2,7 @@
 ghost use Rattle.std.specs.Prelude.{◌≡◌, ℕ, ◌^◌, ◌<◌, ◌≤◌, ℤ, unsigned_abs};
 ghost use Rattle.demapping.specs.Demappings.{exact_demapping};
 ghost use Rattle.demapping.specs.Steps.{Squares, at, exact_from};
-ghost use Rattle.qam.specs.Levels.{Axis, BitOf, reading as in-steps};
+ghost use Rattle.qam.specs.Levels.{Axis, BitOf, reading as in_steps};
 ghost use Rattle.softbits.specs.SoftBits.{Reading, apart, first_with, least_with};
 
 use crate::Demapper;
@@ -13,7 +13,7 @@ use qam::label_bit;
 fn steps_of(m: u8, number: u8) -> i32
     requires axis { Axis m }
     requires level { number < 2 ^ m }
-    ensures value { result ≡ in-steps m number }
+    ensures value { result ≡ in_steps m number }
     ensures range { unsigned_abs result ≤ 960 }
 {
     64 * (2 * number as i32 - (levels(m) as i32 - 1))

@@ -1,10 +1,10 @@
 // Gray labels: level number i has the label i xor i / 2.
 ghost use Rattle.std.specs.Prelude.{◌≡◌, ℕ, ◌^◌, ◌<◌, ◌≤◌, true, IfSome};
-ghost use Rattle.qam.specs.Levels.{SoleLabel, is_label, label as gray-label, label_bit, labelled, number_labelled, reading, reading_labelled};
+ghost use Rattle.qam.specs.Levels.{SoleLabel, is_label, label as gray_label, label_bit, labelled, number_labelled, reading, reading_labelled};
 
 /// The label of a level number.
 pub fn label(number: u8) -> u8
-    ensures { result ≡ gray-label number }
+    ensures { result ≡ gray_label number }
 {
     number ^ (number / 2)
 }

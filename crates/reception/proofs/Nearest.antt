@@ -1,6 +1,6 @@
 -- The message of the least total is as near as the demapper allows. Assumes nothing.
 use Rattle.std.proofs.Common.{◌≡◌, ℕ, zero, suc, ◌+◌, ◌-◌, ◌*◌, ◌%◌, ◌<◌, ◌≤◌, Bool, true, false, cond, eqb, ltb, List, [], ◌∷◌, length, get_or, ℤ, ◌-ℤ◌, nat_abs, Some, None, Option, refl, ap, ◌∙◌, mul-zero, arith}
-use Rattle.std.specs.List.{AllByRecursion as All}
+use Rattle.std.specs.List.{AllByRecursion}
 use Rattle.std.proofs.lemmas.Nat.{mod_below}
 use Rattle.std.proofs.lemmas.Int.{ints}
 use Rattle.std.proofs.lemmas.Bool.{ltb-true, ltb-false}
@@ -34,7 +34,7 @@ at_one v g cost f (suc zero) (suc (suc n)) hc hd = absurd (omega arith)
 
 module _ (v : ℕ → ℤ) (gap : ℕ → ℕ) (cost : ℕ → ℕ → ℕ) (every : (k : ℕ) → Fair (v k) (gap k) (cost k)) where
   -- all of them
-  pub crossed : (j : ℕ) (xs ys : List ℕ) → length xs ≡ length ys → All (λ c. c < 2) xs → All (λ c. c < 2) ys →
+  pub crossed : (j : ℕ) (xs ys : List ℕ) → length xs ≡ length ys → AllByRecursion (λ c. c < 2) xs → AllByRecursion (λ c. c < 2) ys →
       costs cost j xs + 256 * paid v j ys ≤ costs cost j ys + 256 * paid v j xs + 256 * where_apart gap j xs ys
   crossed j [] [] e bx by = omega arith
   crossed j [] (y ∷ ys) e bx by = absurd (omega arith)

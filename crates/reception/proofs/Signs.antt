@@ -1,7 +1,7 @@
 -- Bits that were received with their own signs pay nothing, and no other bits pay nothing. Assumes nothing.
 use Rattle.std.proofs.Common.{◌≡◌, ℕ, zero, suc, ◌<◌, List, [], ◌∷◌, length, ℤ, pos, negsuc, ◌<ℤ◌, refl, ap, arith}
 use borrow.Author.Differences.{lt_out}
-use Rattle.std.specs.List.{AllByRecursion as All}
+use Rattle.std.specs.List.{AllByRecursion}
 use Rattle.trellis.specs.Penalties.{penalties, penalty}
 use Rattle.reception.specs.Unharmed.{Free}
 
@@ -35,12 +35,12 @@ abbrev pub AllSay : (ℕ → ℤ) → ℕ → List ℕ → Type 0
 AllSay v j [] = Unit {0}
 AllSay v j (x ∷ xs) = Says (v j) x × AllSay v (suc j) xs
 
-pub all_free : (v : ℕ → ℤ) (j : ℕ) (xs : List ℕ) → All (λ c. c < 2) xs → AllSay v j xs → Free (penalties v j xs)
+pub all_free : (v : ℕ → ℤ) (j : ℕ) (xs : List ℕ) → AllByRecursion (λ c. c < 2) xs → AllSay v j xs → Free (penalties v j xs)
 all_free v j [] b s k l = absurd (omega arith)
 all_free v j (x ∷ xs) b s zero l = own_free (v j) x b.0 s.0
 all_free v j (x ∷ xs) b s (suc k) l = all_free v (suc j) xs b.1 s.1 k (omega arith)
 
-pub all_own : (v : ℕ → ℤ) (j : ℕ) (xs ys : List ℕ) → length ys ≡ length xs → All (λ c. c < 2) xs → All (λ c. c < 2) ys → AllSay v j xs → Free (penalties v j ys) → ys ≡ xs
+pub all_own : (v : ℕ → ℤ) (j : ℕ) (xs ys : List ℕ) → length ys ≡ length xs → AllByRecursion (λ c. c < 2) xs → AllByRecursion (λ c. c < 2) ys → AllSay v j xs → Free (penalties v j ys) → ys ≡ xs
 all_own v j [] [] e bx by s z = refl
 all_own v j [] (y ∷ ys) e bx by s z = absurd (omega arith)
 all_own v j (x ∷ xs) [] e bx by s z = absurd (omega arith)

@@ -1,7 +1,7 @@
 // Why a call is refused: each refusal goes by a number that never changes.
 #![tactic(auto)]
 
-ghost use Rattle.refusals.specs.Numbers.{number as refusal-number};
+ghost use Rattle.refusals.specs.Numbers.{number as refusal_number};
 ghost use Rattle.std.specs.Prelude.{◌≡◌};
 
 use std::fmt;
@@ -42,7 +42,7 @@ pub enum Refusal {
 impl Refusal {
     /// The number of the refusal.
     pub fn number(self) -> u8
-        ensures { result ≡ refusal-number self }
+        ensures { result ≡ refusal_number self }
     {
         match self {
             Refusal::BitsPerAxis => 1,

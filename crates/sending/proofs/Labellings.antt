@@ -1,6 +1,6 @@
 -- Cells that hold labels: what one more sent bit changes. Assumes nothing.
 use Rattle.std.proofs.Common.{◌≡◌, ℕ, ◌+◌, ◌-◌, ◌*◌, ◌^◌, ◌<◌, ltb, List, [], ◌∷◌, ◌++◌, length, get_or, set, sym, refl, ap, ◌∙◌, subst, inl, inr, arith}
-use Rattle.std.specs.List.{AllByRecursion as All}
+use Rattle.std.specs.List.{AllByRecursion}
 use Rattle.std.proofs.ByRecursion.{All-get_or, All-append}
 use Rattle.std.proofs.lemmas.List.{get_or_append_left, get_or_past, get_or_push, get_or-set_same, get_or-set_other, length-set, length_push}
 use Rattle.std.proofs.lemmas.Bool.{cases_lt, cases_eq, cases_order, cond-true, cond-false, lt-ltb, le-ltb}
@@ -13,7 +13,7 @@ use Rattle.sending.proofs.Numbers.{number_below, number_raised, number_same, num
 
 -- ---- bits, and 0 past them
 
-pub bit_below : (bs : List ℕ) → All (λ c. c < 2) bs → (j : ℕ) → bit_at bs j < 2
+pub bit_below : (bs : List ℕ) → AllByRecursion (λ c. c < 2) bs → (j : ℕ) → bit_at bs j < 2
 bit_below bs a j =
     elim (cases_lt j (length bs)) [
       | inl l ↦ All-get_or (λ c. c < 2) bs j 0 l a
@@ -37,10 +37,10 @@ same_holding : {p q r s : ℕ} → p ≡ r → q ≡ s → holding p q ≡ holdi
 same_holding e d = cc
 
 module _ (X : Interleaving) (m b : ℕ) where
-  pub in_phase_below : (bs : List ℕ) → All (λ c. c < 2) bs → (c : ℕ) → in_phase_label X m b bs c < 2 ^ m
+  pub in_phase_below : (bs : List ℕ) → AllByRecursion (λ c. c < 2) bs → (c : ℕ) → in_phase_label X m b bs c < 2 ^ m
   in_phase_below bs a c = number_below (λ i. bit_at bs (spot X m b c i)) m (λ i l. bit_below bs a (spot X m b c i))
 
-  pub quadrature_below : (bs : List ℕ) → All (λ c. c < 2) bs → (c : ℕ) → quadrature_label X m b bs c < 2 ^ m
+  pub quadrature_below : (bs : List ℕ) → AllByRecursion (λ c. c < 2) bs → (c : ℕ) → quadrature_label X m b bs c < 2 ^ m
   quadrature_below bs a c = number_below (λ i. bit_at bs (spot X m b c (m + i))) m (λ i l. bit_below bs a (spot X m b c (m + i)))
 
   -- blank cells hold the labels of no bits

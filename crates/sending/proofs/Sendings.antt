@@ -1,6 +1,6 @@
 -- What a granted send leaves: no row is met, and every position stands in its cell's label. Assumes nothing.
 use Rattle.std.proofs.Common.{◌≡◌, ℕ, suc, ◌+◌, ◌-◌, ◌^◌, ◌<◌, ◌≤◌, Bool, true, false, cond, not, ◌&&◌, ltb, leb, List, [], ◌∷◌, ◌++◌, length, get_or, take, Some, None, sym, refl, ap, ◌∙◌, subst, inl, inr, arith}
-use Rattle.std.specs.List.{AllByRecursion as All}
+use Rattle.std.specs.List.{AllByRecursion}
 use Rattle.std.proofs.lemmas.List.FromFn.{get_or-map-range_with_len, length-map-range_with_len}
 use Rattle.std.proofs.ByRecursion.{All-get_or}
 use Rattle.std.proofs.lemmas.List.{get_or_append_left}
@@ -49,7 +49,7 @@ no_row L buffer room plan long bits wide =
 
 -- ---- messages
 
-all_are : (xs : List ℕ) → all_bits xs ≡ true → All (λ c. c < 2) xs
+all_are : (xs : List ℕ) → all_bits xs ≡ true → AllByRecursion (λ c. c < 2) xs
 all_are [] h = tt
 all_are (x ∷ xs) h = let p = and_parts (ltb x 2) (all_bits xs) h in (ltb-true x 2 p.0, all_are xs p.1)
 

@@ -1,6 +1,6 @@
 -- For the proof of the sender only: cells that hold labels on their axes, before these become levels. Assumes nothing.
 use Rattle.std.specs.Prelude.{◌≡◌, ℕ, ◌+◌, ◌-◌, ◌*◌, ◌^◌, ◌<◌, ◌≤◌, cond, List, length, take, pos, nat_lt, slice_index_or}
-use Rattle.std.specs.List.{AllByRecursion as All}
+use Rattle.std.specs.List.{AllByRecursion}
 use Rattle.qam.specs.declared.cell.QamCell.{QamCell}
 use Rattle.paths.specs.Paths.{path_end}
 use Rattle.coding.specs.Puncturing.{sent_before}
@@ -30,7 +30,7 @@ pub record Labels (m : ℕ) (x : QamCell) : Type 0 where
 
 -- the cells xs hold the labels of the sent bits bs
 pub record Holds (X : Interleaving) (m b : ℕ) (bs : List ℕ) (xs : List QamCell) : Type 0 where
-  pub bits : All (λ c. c < 2) bs
+  pub bits : AllByRecursion (λ c. c < 2) bs
   pub at : (c : ℕ) (d : QamCell) → c < length xs → slice_index_or xs c d ≡ holding (in_phase_label X m b bs c) (quadrature_label X m b bs c)
 
 -- the cells xs, whole blocks of them, hold the labels of j bits and have room for w more

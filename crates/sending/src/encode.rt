@@ -4,7 +4,7 @@ ghost use Rattle.coding.specs.Encoding.{code_of, sent_at, sent_bits};
 ghost use Rattle.paths.specs.Endings.{closing_input};
 ghost use Rattle.paths.specs.Paths.{Inputs};
 ghost use Rattle.sending.specs.Labelling.{Holds, Taking};
-ghost use Rattle.sending.specs.Links.{Planned, blocks, link_of, steps as frame-steps};
+ghost use Rattle.sending.specs.Links.{Planned, blocks, link_of, steps as frame_steps};
 
 use super::label::put_if_sent;
 use super::plan::Plan;
@@ -64,7 +64,7 @@ pub(crate) fn encode<C: Code, E: Ending<C>, I: Interleaver>(
 )
     requires planned { Planned (link_of plan (C.Code.trellis code) (E.Ending.tail plan.end code) (I.Interleaver.interleaving interleaver)) }
     requires message { Inputs plan.message_bits message.now }
-    requires steps { steps ≡ frame-steps (link_of plan (C.Code.trellis code) (E.Ending.tail plan.end code) (I.Interleaver.interleaving interleaver)) }
+    requires steps { steps ≡ frame_steps (link_of plan (C.Code.trellis code) (E.Ending.tail plan.end code) (I.Interleaver.interleaving interleaver)) }
     requires sized { length cells.old ≡ blocks (link_of plan (C.Code.trellis code) (E.Ending.tail plan.end code) (I.Interleaver.interleaving interleaver)) * plan.block_cells }
     requires blank { Holds (I.Interleaver.interleaving interleaver) plan.bits_per_axis plan.block_cells [] cells.old }
     ensures { Holds (I.Interleaver.interleaving interleaver) plan.bits_per_axis plan.block_cells (sent_bits (link_of plan (C.Code.trellis code) (E.Ending.tail plan.end code) (I.Interleaver.interleaving interleaver)).coding message.now) cells.new }

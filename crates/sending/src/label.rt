@@ -6,7 +6,7 @@ ghost use Rattle.qam.specs.Levels.{Axis, labelled, reading};
 ghost use Rattle.coding.specs.Encoding.{if_sent};
 ghost use Rattle.sending.specs.Cells.{at_levels};
 ghost use Rattle.sending.specs.Labelling.{Holds, Labels, Taking, holding, raised_to, with_bit};
-ghost use Rattle.qam.specs.declared.cell.QamCell.{QamCell as Cell-model};
+ghost use Rattle.qam.specs.declared.cell.QamCell.{QamCell as CellModel};
 
 use interleaving::Interleaver;
 use qam::{QamCell, reading_labelled};
@@ -150,7 +150,7 @@ fn blank_cell() -> QamCell
 
 /// Makes each cell blank.
 pub(crate) fn blank(cells: &mut [QamCell])
-    ensures { (c : ℕ) (d : Cell-model) → c < length cells.new → slice_index_or cells.new c d ≡ holding 0 0 }
+    ensures { (c : ℕ) (d : CellModel) → c < length cells.new → slice_index_or cells.new c d ≡ holding 0 0 }
 {
     for cell in cells.iter_mut() {
         *cell = blank_cell();
@@ -160,8 +160,8 @@ pub(crate) fn blank(cells: &mut [QamCell])
 /// Turns the labels of each cell into levels.
 pub(crate) fn modulate(bits: u8, cells: &mut [QamCell])
     requires axis { Axis bits }
-    requires labels { (c : ℕ) (d : Cell-model) → c < length cells.old → Labels bits (slice_index_or cells.old c d) }
-    ensures { (c : ℕ) (d : Cell-model) (p q : ℕ) → c < length cells.old → slice_index_or cells.old c d ≡ holding p q → slice_index_or cells.new c d ≡ at_levels bits p q }
+    requires labels { (c : ℕ) (d : CellModel) → c < length cells.old → Labels bits (slice_index_or cells.old c d) }
+    ensures { (c : ℕ) (d : CellModel) (p q : ℕ) → c < length cells.old → slice_index_or cells.old c d ≡ holding p q → slice_index_or cells.new c d ≡ at_levels bits p q }
 {
     for i in 0..cells.len() {
         cells[i] = cell_at_levels(bits, cells[i]);

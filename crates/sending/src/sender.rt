@@ -2,7 +2,7 @@
 ghost use Rattle.std.specs.Prelude.{◌≡◌, ℕ, ◌<◌, length};
 ghost use Rattle.paths.specs.Paths.{Inputs};
 ghost use Rattle.sending.specs.Cells.{sent_cells};
-ghost use Rattle.sending.specs.Links.{Planned, cells as frame-cells, link_of, steps as frame-steps};
+ghost use Rattle.sending.specs.Links.{Planned, cells as frame_cells, link_of, steps as frame_steps};
 ghost use Rattle.sending.specs.Sends.{CarriedIfSent, Sent, all_bits};
 
 use super::encode::encode;
@@ -37,8 +37,8 @@ fn fill<C: Code, E: Ending<C>, I: Interleaver>(
 )
     requires planned { Planned (link_of plan (C.Code.trellis code) (E.Ending.tail plan.end code) (I.Interleaver.interleaving interleaver)) }
     requires message { Inputs plan.message_bits message.now }
-    requires steps { steps ≡ frame-steps (link_of plan (C.Code.trellis code) (E.Ending.tail plan.end code) (I.Interleaver.interleaving interleaver)) }
-    requires sized { length cells.old ≡ frame-cells (link_of plan (C.Code.trellis code) (E.Ending.tail plan.end code) (I.Interleaver.interleaving interleaver)) }
+    requires steps { steps ≡ frame_steps (link_of plan (C.Code.trellis code) (E.Ending.tail plan.end code) (I.Interleaver.interleaving interleaver)) }
+    requires sized { length cells.old ≡ frame_cells (link_of plan (C.Code.trellis code) (E.Ending.tail plan.end code) (I.Interleaver.interleaving interleaver)) }
     ensures { cells.new ≡ sent_cells (link_of plan (C.Code.trellis code) (E.Ending.tail plan.end code) (I.Interleaver.interleaving interleaver)) message.now }
 {
     blank(cells);
