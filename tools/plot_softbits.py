@@ -1,7 +1,7 @@
 #!/usr/bin/env python3
 """Draws exact against short soft bits, one panel a bit, from the tables of `softtable`.
 
-usage: tools/plot_softbits.py target/bin/softtable > docs/softbits.svg
+usage: tools/plot_softbits.py bin/softtable > docs/softbits.svg
 """
 import subprocess
 import sys

@@ -19,7 +19,7 @@ import sys
 
 WORD = r'[^\s(){}.;,@"«»`]+'
 TOKEN = re.compile(r'--[^\n]*|"(?:[^"\\\n]|\\.)*"|(?:(?<=\.))?' + WORD)
-RUST = re.compile(r'//[^\n]*|b?"(?:\\.|[^"\\])*"|' + WORD)
+RUST = re.compile(r'//[^\n]*|b?"(?:\\[\s\S]|[^"\\])*"|' + WORD)
 SPAN = re.compile(r"`[^`\n]+`")
 DECLARED = re.compile(
     r"(?m)^ *(?:(?:abbrev|pub|unfoldable|record|data|private) )*([^\s(){}.;,@\"«»:]+)(?: [({][^\n]*?[)}])* :(?= |$)([^\n]*)"

@@ -13,7 +13,7 @@ usage: send [OPTION VALUE]... [MESSAGE]
 
 MESSAGE is the message as binary digits; without it they are read from standard
 input. Blanks and line ends between digits are passed over. A cell is printed as a
-line with its in_phase reading, its quadrature reading and its weight; a unit of
+line with its in-phase reading, its quadrature reading and its weight; a unit of
 level is 64 steps.
 
   -m, --bits N         bits per axis, 1 to 4: 4-, 16-, 64- or 256-QAM (1)
@@ -21,7 +21,7 @@ level is 64 steps.
   -r, --rate R         1/2, 2/3 or 3/4 (1/2)
   -c, --code L         L, the 64-state code of IEEE 802.11a, or R, recursive (L)
   -e, --end L          C, closed, or O, open (C)
-  -i, --interleaver L  S, straight, or T, two_step as in IEEE 802.11a (S)
+  -i, --interleaver L  S, straight, or T, two-step as in IEEE 802.11a (S)
   -h, --help           print this
       --version        print the version
 
