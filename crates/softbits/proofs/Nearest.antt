@@ -14,6 +14,7 @@ first_has (suc zero) m k h a b = by_bit (λ m k. label_bit m k (first_with m k 1
 first_has (suc (suc c)) m k h a b = absurd (omega arith)
 
 pub near_is_nearest : AllNearest near
+unfolding AllNearest
 near_is_nearest m k c r a b h = go (least_met p f (f s) (2 ^ m))
   where
     f : ℕ → ℕ

@@ -56,6 +56,7 @@ at_last : (m : ℕ) (x a : ℤ) → cond (eqb m m) (same a x) true ≡ true → 
 at_last m x a t = same_true a x (sym (cond-true (eqb m m) (same a x) true (eq-eqb m m refl)) ∙ t)
 
 pub same_at_last : SameAtLast short exact
+unfolding SameAtLast
 same_at_last m r a h = at_last m (exact m m r) (short m m r) (facts m m r a (record { first = a.some; last = omega arith }) h).last
 
 pub short_near : Bounded (λ m k r. nat_abs (short m k r -ℤ exact m k r)) 10745

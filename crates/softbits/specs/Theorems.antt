@@ -21,7 +21,7 @@ abbrev pub SameSign : (ℕ → ℕ → ℤ → ℤ) → (ℕ → ℕ → ℤ →
 SameSign f g = Everywhere (λ m k r. hard_of (f m k r) ≡ hard_of (g m k r))
 
 -- f and g are equal at the last bit of each axis
-abbrev pub SameAtLast : (ℕ → ℕ → ℤ → ℤ) → (ℕ → ℕ → ℤ → ℤ) → Type 0
+unfoldable pub SameAtLast : (ℕ → ℕ → ℤ → ℤ) → (ℕ → ℕ → ℤ → ℤ) → Type 0
 SameAtLast f g = (m : ℕ) (r : ℤ) → Axis m → Reading r → f m m r ≡ g m m r
 
 -- n is the squared distance of r from a level whose label bit k is c, and no such level is nearer
@@ -33,7 +33,7 @@ pub record Nearest (m k c : ℕ) (r : ℤ) (n : ℕ) : Type 0 where
   pub least : (i : ℕ) → i < 2 ^ m → label_bit m k i ≡ c → n ≤ apart m r i
 
 -- f m k c r is that, for c either value of a bit
-abbrev pub AllNearest : (ℕ → ℕ → ℕ → ℤ → ℕ) → Type 0
+unfoldable pub AllNearest : (ℕ → ℕ → ℕ → ℤ → ℕ) → Type 0
 AllNearest f = (m k c : ℕ) (r : ℤ) → Axis m → BitOf m k → c < 2 → Nearest m k c r (f m k c r)
 
 -- a demapping with the signs of f tells the bits of each level
