@@ -4,10 +4,12 @@
 usage: python3 tools/respell.py [--list]      at the top of the repository, once, right after port.py
 
 A name that specs/ or proofs/ declare with a dash gets underscores, and upper camel case where it begins with a capital (a type or a fact):
-`closing-steps` becomes `closing_steps`, `Code-laws` becomes `CodeLaws`. Whole words alone turn: in .antt files and in the clauses and ghost
-items of .rt files, but for comments and strings; in must-fail edits; and in the code spans of comments, README.md and docs/*.md.
+`closing-steps` becomes `closing_steps`, `Code-laws` becomes `CodeLaws`. Whole words alone turn: in .antt files and in .rt files (where a name
+with a dash stands in ghost text alone), but for comments and strings; in must-fail edits; and in the code spans of comments, README.md and
+docs/*.md. OTHER has what turns otherwise, and OUTPUT what stays on pages. --list prints the names and writes nothing.
 An import's own name behind `as` turns in its file, and `AllByRecursion as All` is `AllByRecursion`, since All is another word of the library.
-The names that Rattle makes for goals and steps stay, and so does a name in a file that imports it from a library.
+The names that Rattle makes for goals and steps stay, but where the repository has the same name, and so does a name in a file that imports
+it from a library.
 A name that would meet another is listed on a line that begins `meets:`, and then nothing is written.
 """
 
