@@ -59,14 +59,17 @@ four_bits : All 4
 unfolding every
 four_bits = refl
 
-pub label_axis : (m l : ℕ) → is_label m l ≡ true → Axis m
+pub decodes_on : (m l : ℕ) → Axis m → l < 2 ^ m → Decodes m l
+decodes_on m l a h = told m l (every_at (sole_ok m) (2 ^ m) (by_axis All one_bit two_bits three_bits four_bits m a) l h)
+
+label_axis : (m l : ℕ) → is_label m l ≡ true → Axis m
 label_axis m l h =
     let one = and_parts (leb 1 m) (leb m 4 && ltb l (2 ^ m)) h in
     let two = and_parts (leb m 4) (ltb l (2 ^ m)) one.1 in
     record { some = leb-true 1 m one.0; few = leb-true m 4 two.0 }
 
-pub label_inside : (m l : ℕ) → is_label m l ≡ true → l < 2 ^ m
+label_inside : (m l : ℕ) → is_label m l ≡ true → l < 2 ^ m
 label_inside m l h = ltb-true l (2 ^ m) (and_parts (leb m 4) (ltb l (2 ^ m)) (and_parts (leb 1 m) (leb m 4 && ltb l (2 ^ m)) h).1).1
 
 pub decodes : (m l : ℕ) → is_label m l ≡ true → Decodes m l
-decodes m l h = told m l (every_at (sole_ok m) (2 ^ m) (by_axis All one_bit two_bits three_bits four_bits m (label_axis m l h)) l (label_inside m l h))
+decodes m l h = decodes_on m l (label_axis m l h) (label_inside m l h)

@@ -1,6 +1,8 @@
 // Gray labels: level number i has the label i xor i / 2.
-ghost use Rattle.std.specs.Prelude.{◌≡◌, ℕ, ◌^◌, ◌<◌, ◌≤◌, true, IfSome};
-ghost use Rattle.qam.specs.Levels.{SoleLabel, is_label, label as gray_label, label_bit, labelled, number_labelled, reading, reading_labelled};
+ghost use Rattle.std.specs.Prelude.{◌≡◌, IfSome};
+ghost use Rattle.qam.specs.Levels.{SoleLabel, label as gray_label, label_bit, number_labelled, reading_labelled};
+
+use crate::axis::Axis;
 
 /// The label of a level number.
 pub fn label(number: u8) -> u8
@@ -21,58 +23,18 @@ pub fn label_bit(m: u8, k: u8, number: u8) -> u8
     }
 }
 
-/// How many levels an axis of m bits has.
-fn levels(m: u8) -> u8
-    requires { m ≤ 4 }
-    ensures value { result ≡ 2 ^ m }
-    ensures few { result ≤ 16 }
-{
-    1 << m
-}
-
-/// Whether an axis of m bits has this label.
-fn is_label(m: u8, label: u8) -> bool
-    ensures { result ≡ is_label m label }
-{
-    1 <= m && m <= 4 && label < levels(m)
-}
-
-/// The level number that has this label.
-fn numbered(m: u8, label: u8) -> u8
-    requires { is_label m label ≡ true }
-    ensures value { result ≡ labelled m label }
-    ensures sole { SoleLabel m label result }
-{
-    label ^ (label / 2) ^ (label / 4) ^ (label / 8)
-}
-
 /// The level number of an axis with m bits that has this label.
 pub fn number_labelled(m: u8, label: u8) -> Option<u8>
     ensures value { result ≡ number_labelled m label }
     ensures sole { IfSome result (λ i. SoleLabel m label i) }
 {
-    if is_label(m, label) {
-        Some(numbered(m, label))
-    } else {
-        None
-    }
-}
-
-/// A level number of an axis with m bits, in steps.
-fn in_steps(m: u8, number: u8) -> i16
-    requires { (m ≤ 4) × (number < 16) }
-    ensures { result ≡ reading m number }
-{
-    64 * (2 * number as i16 - (levels(m) as i16 - 1))
+    Axis::try_from(m).ok()?.number_labelled(label)
 }
 
 /// The level, in steps, of an axis with m bits that has this label.
 pub fn reading_labelled(m: u8, label: u8) -> Option<i16>
     ensures { result ≡ reading_labelled m label }
 {
-    if is_label(m, label) {
-        Some(in_steps(m, numbered(m, label)))
-    } else {
-        None
-    }
+    let axis = Axis::try_from(m).ok()?;
+    Some(axis.level(axis.number_labelled(label)?))
 }

@@ -1,7 +1,0 @@
--- `gray::levels` meets its contract.
-use Rattle.std.proofs.Common.{arith}
-use Rattle.qam.proofs.Axes.{levels_few}
-use Rattle.qam.proofs.gray.levels.Goals as goal
-
-pub returns : goal.returns
-returns c = let few = levels_few c.args.m c.requires in record { value = omega arith; few = omega arith }
