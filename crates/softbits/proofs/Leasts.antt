@@ -1,21 +1,20 @@
 -- The least of some numbers: one number more, and that it is the least. Assumes nothing.
-use Rattle.std.proofs.Common.{◌≡◌, ℕ, zero, suc, ◌+◌, ◌-◌, ◌^◌, ◌<◌, ◌≤◌, min, Bool, true, false, eqb, ◌⊎◌, sym, refl, ap, ◌∙◌, inl, inr, not-suc-le-zero, add-one, arith, pow_pos, pow_mono}
+use Rattle.std.proofs.Common.{◌≡◌, ℕ, zero, suc, ◌+◌, ◌-◌, ◌^◌, ◌<◌, ◌≤◌, min, Bool, true, false, ◌⊎◌, sym, refl, ap, ◌∙◌, inl, inr, not-suc-le-zero, add-one, arith, pow_pos, pow_mono}
 use lib.Pow.{pow-lt}
-use Rattle.std.proofs.lemmas.Bool.Decides.{nat_tests}
+use Rattle.std.proofs.lemmas.Bool.{both_ways}
 use Rattle.softbits.specs.SoftBits.{first_with, least, least_with, lead_of, lesser}
 
 lesser_is : (t : Bool) (x y new : ℕ) → (t ≡ true → new ≡ min x y) → (t ≡ false → new ≡ y) → new ≡ lesser t x y
 lesser_is true x y new f g = f refl
 lesser_is false x y new f g = g refl
 
--- the number n passes the test, here that b is c, and has less
-pub more_took : (b c : ℕ) (p : ℕ → Bool) (f : ℕ → ℕ) (top n best new : ℕ) → best ≡ least p f top n → p n ≡ eqb b c → b ≡ c → f n < best → new ≡ f n → new ≡ least p f top (n + 1)
-more_took b c p f top n best new h q e l i = rw add-one (lesser_is (p n) (f n) (least p f top n) new (λ t. omega arith) (λ t. grind (arith, nat_tests)))
+-- the number n passes the test
+pub more_took : (p : ℕ → Bool) (f : ℕ → ℕ) (top n best new : ℕ) → p n ≡ true → best ≡ least p f top n → new ≡ min best (f n) → new ≡ least p f top (n + 1)
+more_took p f top n best new t h i = rw add-one (lesser_is (p n) (f n) (least p f top n) new (λ _. omega arith) (λ e. absurd (both_ways (p n) e t)))
 
--- it fails the test, or has no less
-pub more_kept : (b c : ℕ) (p : ℕ → Bool) (f : ℕ → ℕ) (top n best new : ℕ) → best ≡ least p f top n → p n ≡ eqb b c → (b ≡ c → best ≤ f n) → new ≡ best → new ≡ least p f top (n + 1)
-more_kept b c p f top n best new h q e i =
-    rw add-one (lesser_is (p n) (f n) (least p f top n) new (λ t. let u : b ≡ c = grind (arith, nat_tests) in omega (arith, e u)) (λ t. omega arith))
+-- it fails the test
+pub more_kept : (p : ℕ → Bool) (f : ℕ → ℕ) (top n best new : ℕ) → p n ≡ false → best ≡ least p f top n → new ≡ best → new ≡ least p f top (n + 1)
+more_kept p f top n best new t h i = rw add-one (lesser_is (p n) (f n) (least p f top n) new (λ e. absurd (both_ways (p n) t e)) (λ _. cc))
 
 -- the least reads f below n alone
 least_same : (p : ℕ → Bool) (f g : ℕ → ℕ) (s t n : ℕ) → s ≡ t → ((i : ℕ) → i < n → f i ≡ g i) → least p f s n ≡ least p g t n

@@ -7,16 +7,14 @@ ghost use Rattle.softbits.specs.Theorems.{AllNearest, Bounded, NoRemainder, Same
 ghost use Rattle.std.specs.Prelude.{◌≡◌, pos, unsigned_abs};
 
 /// What was computed of the soft bits.
-fn facts() -> u8
+fn facts()
     ensures divides { NoRemainder (pos divisor) }
     ensures range { Bounded (λ m k r. unsigned_abs (exact m k r)) 12792 }
     ensures same_sign { SameSign short exact }
     ensures same_last { SameAtLast short exact }
     ensures nearest { AllNearest near }
     ensures tell { SignsTell exact }
-{
-    0
-}
+{}
 
 /// The number that the exact soft bit is divided by, and always without remainder.
 pub fn exact_divisor() -> i32
@@ -37,7 +35,7 @@ pub fn exact_range() -> u32
 }
 
 /// The short soft bits have the signs of the exact ones, and are these at the last bit of an axis.
-pub fn short_agrees() -> u8
+pub fn short_agrees()
     ensures sign { SameSign short exact }
     ensures last { SameAtLast short exact }
 {
@@ -45,22 +43,20 @@ pub fn short_agrees() -> u8
 }
 
 /// near(c) is the squared distance of a nearest level whose label bit is c.
-pub fn near_is_nearest() -> u8
+pub fn near_is_nearest()
     ensures { AllNearest near }
 {
     facts()
 }
 
 /// A demapper with the signs of the exact soft bits tells the bits of each level.
-pub fn signs_tell() -> u8
+pub fn signs_tell()
     ensures { SignsTell exact }
 {
     facts()
 }
 
 /// The worked soft bits hold.
-pub fn worked_soft_bits() -> u8
+pub fn worked_soft_bits()
     ensures { WorkedSoftBits }
-{
-    0
-}
+{}
