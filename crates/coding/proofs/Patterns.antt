@@ -1,15 +1,10 @@
 -- The rows of the pattern table, and how many bits a number of steps sends. Assumes nothing.
-use Rattle.std.proofs.Common.{◌≡◌, ℕ, zero, suc, ◌+◌, ◌*◌, ◌/◌, ◌%◌, ◌<◌, ◌≤◌, Bool, true, false, cond, List, ◌++◌, length, get_or, ap, ◌∙◌, arith}
+use Rattle.std.proofs.Common.{◌≡◌, ℕ, zero, suc, ◌+◌, ◌*◌, ◌/◌, ◌%◌, ◌<◌, ◌≤◌, Bool, true, false, cond, List, get_or, ap, ◌∙◌, arith}
 use native.Mathlib.Nat.{div-add-mod}
-use Rattle.std.proofs.lemmas.List.{get_or_append_left}
 use Rattle.std.proofs.lemmas.Nat.{mod_below, div-mul-add}
 use Rattle.coding.specs.declared.puncture.Rate.{Rate}
 use Rattle.coding.specs.declared.puncture.Rate.TheVariants.{Half, TwoThirds, ThreeQuarters}
 use Rattle.coding.specs.Puncturing.{first_row, second_row, sends_first, sends_second, sent_before, sent_in_all}
-
--- a row that is filled up reads as the row, within its period
-pub filled_up : (row more : List Bool) (k : ℕ) → 0 < length row → get_or (row ++ more) (k % length row) false ≡ get_or row (k % length row) false
-filled_up row more k h = get_or_append_left row more false (k % length row) (mod_below k (length row) h)
 
 -- ---- how many bits are sent
 
@@ -71,7 +66,7 @@ sent_is ThreeQuarters (suc n) =
     let step : P (n % 3) = by_three P n zeroth oneth twoth in
     omega (arith, sent_is ThreeQuarters n, step)
 
-at_most_one : (b : Bool) → cond b 1 0 ≤ 1
+pub at_most_one : (b : Bool) → cond b 1 0 ≤ 1
 at_most_one true = omega arith
 at_most_one false = omega arith
 

@@ -1,7 +1,9 @@
-pub mod Long
-pub mod Recursive
+pub mod Encoding
 pub mod Endings
 pub mod Kinds
-pub mod Puncturing
-pub mod Encoding
 pub mod Letters
+pub mod Long
+pub mod Meaning
+pub mod Names
+pub mod Puncturing
+pub mod Recursive

@@ -4,6 +4,8 @@ ghost use Rattle.paths.specs.Codes.{Trellis};
 ghost use Rattle.paths.specs.Endings.{Closer, CloserLaws};
 
 /// A code of at most 64 states, numbered from 0: it starts in state 0.
+// Branches are plain tuples of numbers: that form is fixed by a rule of the project, for those who write a code of their own. So a
+// state is a plain number too, asked to be below the count: a type could say so only of one code, whose count may depend on its value.
 pub trait Code: Copy {
     // The code's meaning, with its laws.
     ghost trellis: { Self → Trellis };

@@ -1,10 +1,15 @@
 // How a frame ends: closed or open where the code is closable, and open where it is not.
-ghost use Rattle.std.specs.Prelude.{◌≡◌, ◌<◌};
+ghost use Rattle.std.specs.Prelude.{◌≡◌, ◌<◌, Some};
 ghost use Rattle.coding.specs.Endings.{end_of};
 ghost use Rattle.coding.specs.Letters.{end_lettered};
+ghost use Rattle.coding.specs.Names.{end_name};
 ghost use Rattle.paths.specs.Endings.{Tail, Tail.unclosed, TailLaws, closing_input, closing_steps};
+ghost use Rattle.refusals.specs.Names.{ReadsName, named};
 
 use super::code::{Closable, Code};
+use refusals::UnknownName;
+use std::fmt;
+use std::str::FromStr;
 
 /// How a frame of the code C ends.
 pub trait Ending<C: Code>: Copy {
@@ -39,22 +44,48 @@ impl<C: Code> Ending<C> for NoEnd {
 }
 
 /// The ends of a closable code: open, where nothing is appended, or closed by the code's closing inputs.
-#[derive(Clone, Copy)]
+// Its own `TryFrom`, `FromStr` and `Display`: see `CodeKind`.
+#[derive(Clone, Copy, PartialEq, Eq, Debug)]
 pub enum End {
     Open,
     Closed,
 }
 
-impl End {
-    /// The end that a letter names.
-    pub fn from_letter(letter: u8) -> Option<End>
-        ensures { result ≡ end_lettered letter }
-    {
+impl TryFrom<u8> for End {
+    type Error = UnknownName;
+
+    ghost try_from_gives = { λ letter r. r ≡ named (end_lettered letter) };
+
+    fn try_from(letter: u8) -> Result<End, UnknownName> {
         match letter {
-            b'C' => Some(End::Closed),
-            b'O' => Some(End::Open),
-            _ => None,
+            b'C' => Ok(End::Closed),
+            b'O' => Ok(End::Open),
+            _ => Err(UnknownName),
         }
+    }
+}
+
+impl FromStr for End {
+    type Err = UnknownName;
+
+    ghost from_str_gives = { ReadsName end_name };
+
+    fn from_str(name: &str) -> Result<End, UnknownName> {
+        match name.as_bytes() {
+            [letter] => End::try_from(*letter),
+            _ => Err(UnknownName),
+        }
+    }
+}
+
+impl fmt::Display for End {
+    ghost output = { λ end. Some (end_name end) };
+
+    fn fmt<W: fmt::Write>(&self, f: &mut fmt::Formatter<W>) -> fmt::Result {
+        f.write_str(match self {
+            End::Closed => "C",
+            End::Open => "O",
+        })
     }
 }
 

@@ -2,6 +2,7 @@
 #![tactic(auto)]
 
 mod code;
+mod encoding;
 mod ending;
 mod kind;
 mod long;
@@ -10,6 +11,7 @@ mod recursive;
 mod theorems;
 
 pub use code::{Closable, Code};
+pub use encoding::Coding;
 pub use ending::{End, Ending, NoEnd};
 pub use kind::CodeKind;
 pub use long::Long;

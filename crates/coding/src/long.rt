@@ -1,5 +1,5 @@
 // The code of 64 states of IEEE 802.11a.
-ghost use Rattle.coding.specs.Long.{long_closer, long_closer_laws, long_trellis, parity};
+ghost use Rattle.coding.specs.Long.{long_closer, long_trellis, parity};
 ghost use Rattle.std.specs.Prelude.{◌≡◌};
 
 use super::code::{Closable, Code};
@@ -40,6 +40,7 @@ impl Code for Long {
 impl Closable for Long {
     ghost closer = { λ _. long_closer };
 
+    #[tactic(auto, using(crate::specs::Long::long_closer_laws))]
     fn memory(&self) -> u8 {
         6
     }

@@ -1,90 +1,115 @@
 // Puncturing: which code bits of a step are sent.
 ghost use Rattle.coding.specs.Letters.{rate_numbered};
-ghost use Rattle.coding.specs.Puncturing.{sends_first, sends_second, sent_before, sent_in_all};
-ghost use Rattle.std.specs.Prelude.{◌≡◌, ◌%◌, ◌<◌, ◌≤◌, false, slice_index_or};
+ghost use Rattle.coding.specs.Names.{rate_name};
+ghost use Rattle.coding.specs.Puncturing.{sends_first, sends_second, sent_before};
+ghost use Rattle.refusals.specs.Names.{ReadsName, named};
+ghost use Rattle.std.specs.Prelude.{◌≡◌, ◌%◌, ◌<◌, Some, false, length, slice_index_or};
+
+use refusals::UnknownName;
+use std::fmt;
+use std::str::FromStr;
 
 /// The code rate after puncturing.
-#[derive(Clone, Copy)]
+// Its own `TryFrom`, `FromStr` and `Display`: see `CodeKind`. Its numbers and its texts differ, so both tables stand.
+#[derive(Clone, Copy, PartialEq, Eq, Debug)]
 pub enum Rate {
     Half,
     TwoThirds,
     ThreeQuarters,
 }
 
-/// A row of the pattern table: its period, and which first and second code bits are sent in each step of it.
+/// A row of the pattern table: which first and which second code bits are sent, step by step, before it repeats.
 struct Pattern {
-    period: usize,
-    first: [bool; 3],
-    second: [bool; 3],
+    first: &'static [bool],
+    second: &'static [bool],
 }
 
 const PATTERNS: [Pattern; 3] = [
     Pattern {
-        period: 1,
-        first: [true, false, false],
-        second: [true, false, false],
+        first: &[true],
+        second: &[true],
     },
     Pattern {
-        period: 2,
-        first: [true, true, false],
-        second: [true, false, false],
+        first: &[true, true],
+        second: &[true, false],
     },
     Pattern {
-        period: 3,
-        first: [true, true, false],
-        second: [true, false, true],
+        first: &[true, true, false],
+        second: &[true, false, true],
     },
 ];
 
-impl Rate {
-    /// The rate that a number names: 1, 2 and 3 for 1/2, 2/3 and 3/4.
-    pub fn from_number(number: u8) -> Option<Rate>
-        ensures { result ≡ rate_numbered number }
-    {
+// The numbers of the rates are 1, 2 and 3 for 1/2, 2/3 and 3/4.
+impl TryFrom<u8> for Rate {
+    type Error = UnknownName;
+
+    ghost try_from_gives = { λ number r. r ≡ named (rate_numbered number) };
+
+    fn try_from(number: u8) -> Result<Rate, UnknownName> {
         match number {
-            1 => Some(Rate::Half),
-            2 => Some(Rate::TwoThirds),
-            3 => Some(Rate::ThreeQuarters),
-            _ => None,
+            1 => Ok(Rate::Half),
+            2 => Ok(Rate::TwoThirds),
+            3 => Ok(Rate::ThreeQuarters),
+            _ => Err(UnknownName),
         }
     }
 }
 
-/// A row of the table at a step: it repeats after its period.
-fn row_at(row: [bool; 3], period: usize, step: usize) -> bool
-    requires { (0 < period) × (period ≤ 3) }
-    ensures { result ≡ slice_index_or row (step % period) false }
+impl FromStr for Rate {
+    type Err = UnknownName;
+
+    ghost from_str_gives = { ReadsName rate_name };
+
+    fn from_str(name: &str) -> Result<Rate, UnknownName> {
+        match name {
+            "1/2" => Ok(Rate::Half),
+            "2/3" => Ok(Rate::TwoThirds),
+            "3/4" => Ok(Rate::ThreeQuarters),
+            _ => Err(UnknownName),
+        }
+    }
+}
+
+impl fmt::Display for Rate {
+    ghost output = { λ rate. Some (rate_name rate) };
+
+    fn fmt<W: fmt::Write>(&self, f: &mut fmt::Formatter<W>) -> fmt::Result {
+        f.write_str(match self {
+            Rate::Half => "1/2",
+            Rate::TwoThirds => "2/3",
+            Rate::ThreeQuarters => "3/4",
+        })
+    }
+}
+
+/// A row of the table at a step: it repeats after its last.
+fn row_at(row: &[bool], step: usize) -> bool
+    requires { 0 < length row.now }
+    ensures { result ≡ slice_index_or row.now (step % length row.now) false }
 {
-    row[step % period]
+    row[step % row.len()]
 }
 
 /// Whether the first, and the second, code bit of a step is sent.
+// Two flags: the pattern says of each code bit by itself whether it is sent, and the callers make positions or bits of them.
+#[tactic(auto, unfolding(crate::specs::Puncturing::sends_first, crate::specs::Puncturing::sends_second))]
 pub fn sent_code_bits(rate: Rate, step: usize) -> (bool, bool)
     ensures first { result.0 ≡ sends_first rate step }
     ensures second { result.1 ≡ sends_second rate step }
 {
     let pattern = &PATTERNS[rate as usize];
-    (
-        row_at(pattern.first, pattern.period, step),
-        row_at(pattern.second, pattern.period, step),
-    )
+    (row_at(pattern.first, step), row_at(pattern.second, step))
 }
 
 /// How many bits so many steps send, without counting step by step.
-fn sent_in_all(rate: Rate, steps: u32) -> u64
-    ensures { result ≡ sent_in_all rate steps }
+#[tactic(auto, using(crate::proofs::Patterns::sent_is))]
+pub fn sent_in(rate: Rate, steps: u32) -> u64
+    ensures { result ≡ sent_before rate steps }
 {
-    let n = steps as u64;
+    let n = u64::from(steps);
     match rate {
         Rate::Half => 2 * n,
         Rate::TwoThirds => (3 * n + 1) / 2,
         Rate::ThreeQuarters => (4 * n + 2) / 3,
     }
-}
-
-/// How many bits so many steps send.
-pub fn sent_in(rate: Rate, steps: u32) -> u64
-    ensures { result ≡ sent_before rate steps }
-{
-    sent_in_all(rate, steps)
 }

@@ -1,5 +1,5 @@
 // The recursive code of four states: a state is 2x + y.
-ghost use Rattle.coding.specs.Recursive.{recursive_closer, recursive_closer_laws, recursive_trellis};
+ghost use Rattle.coding.specs.Recursive.{recursive_closer, recursive_trellis};
 ghost use Rattle.std.specs.Prelude.{◌≡◌};
 
 use super::code::{Closable, Code};
@@ -15,6 +15,7 @@ impl Code for Recursive {
         4
     }
 
+    #[tactic(auto, using(crate::proofs::Bounds::fed_back_bit))]
     fn branch(&self, state: u8, input: u8) -> (u8, u8, u8) {
         let x = state / 2;
         let y = state % 2;
@@ -32,6 +33,7 @@ impl Code for Recursive {
 impl Closable for Recursive {
     ghost closer = { λ _. recursive_closer };
 
+    #[tactic(auto, using(crate::specs::Recursive::recursive_closer_laws))]
     fn memory(&self) -> u8 {
         2
     }
