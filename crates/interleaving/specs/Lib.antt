@@ -6,4 +6,5 @@ pub mod StepLaws
 pub mod Steps
 pub mod TwoStep
 pub mod Letters
+pub mod Names
 pub mod Theorems

@@ -2,11 +2,12 @@
 ghost use Rattle.interleaving.specs.Interleaving.{cascade};
 ghost use Rattle.std.specs.Prelude.{◌≡◌};
 
+use super::block::Block;
 use super::interleaver::Interleaver;
 use super::steps::{FirstStep, SecondStep};
 
 /// One interleaver and then another: it takes what both take.
-#[derive(Clone, Copy)]
+#[derive(Clone, Copy, PartialEq, Eq, Debug)]
 pub struct Cascade<A, B> {
     pub inner: A,
     pub outer: B,
@@ -15,18 +16,18 @@ pub struct Cascade<A, B> {
 impl<A: Interleaver, B: Interleaver> Interleaver for Cascade<A, B> {
     ghost interleaving = { λ s. cascade (A.Interleaver.interleaving s.inner) (B.Interleaver.interleaving s.outer) };
 
-    fn takes(&self, bits: u8, cells: u8) -> bool {
-        self.inner.takes(bits, cells) && self.outer.takes(bits, cells)
+    fn takes(&self, block: Block) -> bool {
+        self.inner.takes(block) && self.outer.takes(block)
     }
 
-    fn place(&self, bits: u8, cells: u8, position: usize) -> usize {
-        let between = self.inner.place(bits, cells, position);
-        self.outer.place(bits, cells, between)
+    fn place(&self, block: Block, position: usize) -> usize {
+        let between = self.inner.place(block, position);
+        self.outer.place(block, between)
     }
 
-    fn position(&self, bits: u8, cells: u8, place: usize) -> usize {
-        let between = self.outer.position(bits, cells, place);
-        self.inner.position(bits, cells, between)
+    fn position(&self, block: Block, place: usize) -> usize {
+        let between = self.outer.position(block, place);
+        self.inner.position(block, between)
     }
 }
 

@@ -1,15 +1,10 @@
 -- `SecondStep`'s `position` meets its contract: what it computes fits its type.
 use Rattle.std.proofs.Common.{arith}
-use Rattle.interleaving.specs.StepLaws.{cut, column_le}
-use Rattle.interleaving.proofs.Bounds.{product_le, size_le}
+use Rattle.interleaving.proofs.Bounds.{column_inside, product_le, size_le}
 use Rattle.interleaving.proofs.steps.SecondStepInterleaver.position.Goals as goal
 
 pub overflow_mul-result-2 : goal.overflow_mul-result-2
-overflow_mul-result-2 c =
-    let k = cut c.args.self.now.columns c.args.bits c.args.cells c.requires.sized.some_cells c.requires.taken in
-    omega (arith, product_le _ _ _ c.args.place k c.requires.sized.some_bits c.requires.sized.few_bits c.requires.sized.few_cells c.requires.within)
+overflow_mul-result-2 c = rw c.from.ensures (omega (arith, product_le c.args.self.now.columns c.args.block.bits c.args.block.cells c.args.place c.args.block.sized c.requires.taken c.requires.within))
 
 pub overflow_add-result : goal.overflow_add-result
-overflow_add-result c =
-    let k = cut c.args.self.now.columns c.args.bits c.args.cells c.requires.sized.some_cells c.requires.taken in
-    omega (arith, column_le _ _ _ c.args.place k c.requires.within, size_le c.args.bits c.args.cells c.requires.sized.few_bits c.requires.sized.few_cells)
+overflow_add-result c = rw (c.positions-n.ensures, c.from.ensures) (omega (arith, column_inside c.args.self.now.columns c.args.block.bits c.args.block.cells c.args.place c.args.block.sized c.requires.taken c.requires.within, size_le c.args.block.bits c.args.block.cells c.args.block.sized.few_bits c.args.block.sized.few_cells))
