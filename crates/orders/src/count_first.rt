@@ -17,11 +17,13 @@ impl Order for CountFirst {
     }
 
     fn add(&self, total: (u32, u64), penalty: u32) -> (u32, u64) {
-        let paid = if penalty > 0 { 1 } else { 0 };
-        (total.0 + paid, total.1 + penalty as u64)
+        (
+            total.0 + u32::from(penalty > 0),
+            total.1 + u64::from(penalty),
+        )
     }
 
     fn lower(&self, a: (u32, u64), b: (u32, u64)) -> bool {
-        a.0 < b.0 || (a.0 == b.0 && a.1 < b.1)
+        a < b
     }
 }

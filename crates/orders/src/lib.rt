@@ -12,14 +12,10 @@ pub use sum::{Sum, sum_is_a_sum};
 #[cfg(test)]
 mod tests {
     // A total by the worst penalty and then the sum: it looks like an order, and is not a lawful one.
-    #[derive(Clone, Copy)]
+    #[derive(Clone, Copy, PartialEq, PartialOrd)]
     struct Worst {
         worst: u32,
         sum: u32,
-    }
-
-    fn lower(a: Worst, b: Worst) -> bool {
-        a.worst < b.worst || (a.worst == b.worst && a.sum < b.sum)
     }
 
     fn with_two(t: Worst) -> Worst {
@@ -34,8 +30,8 @@ mod tests {
     fn worst_then_sum_is_not_lawful(rt: HostRuntime) {
         let a = Worst { worst: 1, sum: 5 };
         let b = Worst { worst: 2, sum: 2 };
-        assert!(rt; lower(a, b));
-        assert!(rt; lower(with_two(b), with_two(a)));
-        assert!(rt; !lower(with_two(a), with_two(b)));
+        assert!(rt; a < b);
+        assert!(rt; with_two(b) < with_two(a));
+        assert!(rt; !(with_two(a) < with_two(b)));
     }
 }

@@ -4,4 +4,4 @@ use Rattle.orders.proofs.Bounds.{sum_bound}
 use Rattle.orders.proofs.sum.SumOrder.add.Goals as goal
 
 pub overflow_add-result : goal.overflow_add-result
-overflow_add-result c = omega (arith, c.requires.light, c.requires.bears.room, sum_bound c.requires.bears.reached)
+overflow_add-result c = omega (arith, c.from.ensures, c.requires.light, c.requires.bears.room, sum_bound c.requires.bears.reached)
