@@ -1,12 +1,30 @@
--- The hard soft bit from the exact one that was answered. Assumes nothing.
-use Rattle.std.proofs.Common.{◌≡◌, ℕ, Bool, true, false, cond, leb, ℤ, pos, refl, ap, ◌∙◌}
+-- The hard soft bits are the signs of the exact ones, also past bit m. Assumes nothing.
+use Rattle.std.proofs.Common.{◌≡◌, ℕ, ◌<◌, Bool, true, false, cond, leb, List, [], ◌∷◌, length, get_or, ℤ, pos, refl, ap, ◌∙◌, arith}
 use Rattle.softbits.specs.SoftBits.{exact, hard_of}
+use Rattle.softbits.specs.Demapping.{answers}
 use Rattle.demapping.specs.Demappings.{exact_demapping, hard_demapping}
 
 hard_cond : (b : Bool) (x : ℤ) → hard_of (cond b x (pos 0)) ≡ cond b (hard_of x) (pos 0)
 hard_cond true x = refl
 hard_cond false x = refl
 
-pub hard_bit : (x z : ℤ) → z ≡ hard_of x → (m k : ℕ) (r : ℤ) → x ≡ exact_demapping.answer m k r → z ≡ hard_demapping.answer m k r
+hard_answer : (m k : ℕ) (r : ℤ) → hard_of (exact_demapping.answer m k r) ≡ hard_demapping.answer m k r
 unfolding exact_demapping hard_demapping
-hard_bit x z v m k r e = v ∙ ap hard_of e ∙ hard_cond (leb k m) (exact m k r)
+hard_answer m k r = hard_cond (leb k m) (exact m k r)
+
+four : (a b c d : ℤ) (ys : List ℤ) → length ys ≡ 4 → get_or ys 0 (pos 0) ≡ a → get_or ys 1 (pos 0) ≡ b → get_or ys 2 (pos 0) ≡ c → get_or ys 3 (pos 0) ≡ d → ys ≡ a ∷ b ∷ c ∷ d ∷ []
+four a b c d [] l e f g h = absurd (omega (arith, l))
+four a b c d (x ∷ []) l e f g h = absurd (omega (arith, l))
+four a b c d (x ∷ y ∷ []) l e f g h = absurd (omega (arith, l))
+four a b c d (x ∷ y ∷ z ∷ []) l e f g h = absurd (omega (arith, l))
+four a b c d (x ∷ y ∷ z ∷ w ∷ []) l e f g h = cc
+four a b c d (x ∷ y ∷ z ∷ w ∷ v ∷ vs) l e f g h = absurd (omega (arith, l))
+
+pub hard_answers : (m : ℕ) (r : ℤ) (xs ys : List ℤ) → xs ≡ answers exact_demapping m r → length ys ≡ 4 → ((i : ℕ) → i < 4 → get_or ys i (pos 0) ≡ hard_of (get_or xs i (pos 0))) → ys ≡ answers hard_demapping m r
+hard_answers m r xs ys e l h =
+    let at = λ (i : ℕ) (xs : List ℤ). hard_of (get_or xs i (pos 0)) in
+    four _ _ _ _ ys l
+    (h 0 (omega arith) ∙ ap (at 0) e ∙ hard_answer m 1 r)
+    (h 1 (omega arith) ∙ ap (at 1) e ∙ hard_answer m 2 r)
+    (h 2 (omega arith) ∙ ap (at 2) e ∙ hard_answer m 3 r)
+    (h 3 (omega arith) ∙ ap (at 3) e ∙ hard_answer m 4 r)

@@ -2,24 +2,24 @@
 ghost use Rattle.std.specs.Prelude.{◌≡◌, ◌≤◌};
 ghost use Rattle.demapping.specs.Demappings.{short_demapping};
 ghost use Rattle.demapping.specs.Steps.{short_after};
-ghost use Rattle.qam.specs.Levels.{Axis};
-ghost use Rattle.softbits.specs.SoftBits.{Reading};
 
 use crate::Demapper;
-use crate::levels::levels;
+use qam::{Axis, Reading};
 
-/// The short soft bit k from the one before it, zero past bit m.
-fn short_after(m: u8, k: u8, a: i32) -> i32
-    requires axis { Axis m }
-    requires second { 2 ≤ k }
-    requires reading { Reading a }
-    ensures value { result ≡ short_after m k a }
-    ensures range { Reading result }
+/// The short soft bit k from the one before it, zero past the last bit: each is in the range of a reading.
+fn short_after(axis: Axis, k: u8, before: Reading) -> Reading
+    requires { 2 ≤ k }
+    ensures { result.steps ≡ short_after axis.bits k before.steps }
 {
-    if k > m {
-        return 0;
+    if k > axis.bits {
+        return Reading { steps: 0 };
     }
-    64 * levels(m - (k - 1)) as i32 - a.abs()
+    let inner = Axis {
+        bits: axis.bits - (k - 1),
+    };
+    Reading {
+        steps: 64 * i16::from(inner.levels()) - before.steps.abs(),
+    }
 }
 
 /// Answers the short soft bits.
@@ -29,10 +29,11 @@ pub struct Short;
 impl Demapper for Short {
     ghost demapping = { λ _. short_demapping };
 
-    fn soft(&self, m: u8, reading: i32) -> [i32; 4] {
-        let second = short_after(m, 2, reading);
-        let third = short_after(m, 3, second);
-        let fourth = short_after(m, 4, third);
-        [reading, second, third, fourth]
+    fn soft(&self, axis: Axis, reading: Reading) -> [i32; 4] {
+        // Three lines and no chain: each soft bit needs the one before it, and of a closure that keeps it nothing is known.
+        let second = short_after(axis, 2, reading);
+        let third = short_after(axis, 3, second);
+        let fourth = short_after(axis, 4, third);
+        [reading, second, third, fourth].map(|bit| i32::from(bit.steps))
     }
 }

@@ -1,96 +1,106 @@
 // The exact demapper: the squared distance from each level is formed once, and each bit takes its least from the table.
-ghost use Rattle.std.specs.Prelude.{◌≡◌, ℕ, ◌^◌, ◌<◌, ◌≤◌, ℤ, unsigned_abs};
+ghost use Rattle.std.specs.Prelude.{◌≡◌, ◌<◌, ◌≤◌, nat_eq};
 ghost use Rattle.demapping.specs.Demappings.{exact_demapping};
 ghost use Rattle.demapping.specs.Steps.{Squares, at, exact_from};
-ghost use Rattle.qam.specs.Levels.{Axis, BitOf, reading as in_steps};
-ghost use Rattle.softbits.specs.SoftBits.{Reading, apart, first_with, least_with};
+ghost use Rattle.qam.specs.Levels.{BitOf, label_bit};
+ghost use Rattle.softbits.specs.SoftBits.{apart, first_with, least_with};
 
 use crate::Demapper;
-use crate::levels::levels;
-use qam::label_bit;
-
-/// A level number of an axis with m bits, in steps.
-fn steps_of(m: u8, number: u8) -> i32
-    requires axis { Axis m }
-    requires level { number < 2 ^ m }
-    ensures value { result ≡ in_steps m number }
-    ensures range { unsigned_abs result ≤ 960 }
-{
-    64 * (2 * number as i32 - (levels(m) as i32 - 1))
-}
+use qam::{Axis, Reading, label_bit};
+use std::array;
 
 /// The squared distance of a reading from a level.
-fn square_at(m: u8, r: i32, number: u8) -> u32
-    requires axis { Axis m }
-    requires reading { Reading r }
-    requires level { number < 2 ^ m }
-    ensures { result ≡ apart m r number }
+fn square_at(axis: Axis, reading: Reading, number: usize) -> u32
+    requires { number < 16 }
+    ensures { result ≡ apart axis.bits reading.steps number }
 {
-    let d = r.abs_diff(steps_of(m, number));
-    d * d
+    let distance = u32::from(reading.steps.abs_diff(axis.level(number as u8)));
+    distance * distance
 }
 
-/// The squared distance of a reading from each level, by level number.
-fn squares(m: u8, r: i32) -> [u32; 16]
-    requires axis { Axis m }
-    requires reading { Reading r }
-    ensures { Squares m r result }
-{
-    let mut t = [0; 16];
-    for number in 0..levels(m) {
-        t[number as usize] = square_at(m, r, number);
-    }
-    t
+/// The squared distance of a reading at each level number below 16; those past the levels of the axis are not read.
+// Which bit k and which value c of it stay two arguments of each method: they change from call to call.
+#[derive(Clone, Copy)]
+struct Distances {
+    axis: Axis,
+    reading: Reading,
+    // As many places as the largest axis has levels: a library allocates nothing.
+    squared: [u32; 16],
+    ghost each: { Squares axis.bits reading.steps squared },
 }
 
-/// The number of a level whose label bit k is c.
-fn first_with(m: u8, k: u8, c: u8) -> u8
-    requires axis { Axis m }
-    requires within { BitOf m k }
-    requires value { c < 2 }
-    ensures value { result ≡ first_with m k c }
-    ensures few { result < 16 }
-{
-    c << (m - k)
-}
-
-/// The least number of the table at the levels whose label bit k is c.
-fn least_with(t: &[u32; 16], m: u8, k: u8, c: u8) -> u32
-    requires axis { Axis m }
-    requires within { BitOf m k }
-    requires value { c < 2 }
-    ensures { result ≡ least_with m k c (at t.now) }
-{
-    let mut best = t[first_with(m, k, c) as usize];
-    for i in 0..levels(m) {
-        if label_bit(m, k, i) == c && t[i as usize] < best {
-            best = t[i as usize];
+impl Distances {
+    fn of(axis: Axis, reading: Reading) -> Distances
+        ensures axis { result.axis ≡ axis }
+        ensures reading { result.reading ≡ reading }
+    {
+        let mut squared = [0; 16];
+        for (number, square) in squared.iter_mut().enumerate() {
+            *square = square_at(axis, reading, number);
+        }
+        Distances {
+            axis,
+            reading,
+            squared,
         }
     }
-    best
-}
 
-/// The exact soft bit k from the table of squares, zero past bit m.
-fn exact_from(t: &[u32; 16], m: u8, k: u8) -> i32
-    requires axis { Axis m }
-    requires first { 1 ≤ k }
-    ensures { result ≡ exact_from t.now m k }
-{
-    if k > m {
-        return 0;
+    /// The number of a level whose label bit k is c.
+    #[tactic(auto, using(softbits::proofs::Leasts::first_few))]
+    fn first_with(&self, k: u8, c: u8) -> usize
+        requires within { BitOf self.now.axis.bits k }
+        requires value { c < 2 }
+        ensures value { result ≡ first_with self.now.axis.bits k c }
+        ensures few { result < 16 }
+    {
+        usize::from(c << (self.axis.bits - k))
     }
-    let zero = least_with(t, m, k, 0);
-    let one = least_with(t, m, k, 1);
-    ((zero as i64 - one as i64) / 256) as i32
-}
 
-/// The exact soft bit k, zero past bit m, of whatever reading the table has the squares.
-fn exact_bit(t: &[u32; 16], m: u8, k: u8) -> i32
-    requires axis { Axis m }
-    requires first { 1 ≤ k }
-    ensures { (r : ℤ) → Squares m r t.now → result ≡ exact_demapping.answer m k r }
-{
-    exact_from(t, m, k)
+    /// Whether label bit k of a level is c.
+    fn has(&self, number: usize, k: u8, c: u8) -> bool
+        requires { number < 16 }
+        ensures { result ≡ nat_eq (label_bit self.now.axis.bits k number) c }
+    {
+        label_bit(self.axis.bits, k, number as u8) == c
+    }
+
+    /// The least squared distance from the levels whose label bit k is c.
+    fn least_with(&self, k: u8, c: u8) -> u32
+        requires within { BitOf self.now.axis.bits k }
+        requires value { c < 2 }
+        ensures { result ≡ least_with self.now.axis.bits k c (at self.now.squared) }
+    {
+        let mut least = self.squared[self.first_with(k, c)];
+        let levels = usize::from(self.axis.levels());
+        for (number, &square) in self.squared[..levels].iter().enumerate() {
+            if self.has(number, k, c) {
+                least = least.min(square);
+            }
+        }
+        least
+    }
+
+    /// The exact soft bit k of the squared distances, zero past the last bit.
+    fn exact_from(&self, k: u8) -> i32
+        requires { 1 ≤ k }
+        ensures { result ≡ exact_from self.now.squared self.now.axis.bits k }
+    {
+        if k > self.axis.bits {
+            return 0;
+        }
+        let zero = i64::from(self.least_with(k, 0));
+        let one = i64::from(self.least_with(k, 1));
+        ((zero - one) / 256) as i32
+    }
+
+    /// The exact soft bit k of the reading, zero past the last bit.
+    // Two functions: the meaning of `exact_demapping` is shut, so the code is held to its open form in `exact_from`, and this one to it.
+    fn exact_bit(&self, k: u8) -> i32
+        requires { 1 ≤ k }
+        ensures { result ≡ exact_demapping.answer self.now.axis.bits k self.now.reading.steps }
+    {
+        self.exact_from(k)
+    }
 }
 
 /// Answers the exact soft bits.
@@ -100,12 +110,8 @@ pub struct Exact;
 impl Demapper for Exact {
     ghost demapping = { λ _. exact_demapping };
 
-    fn soft(&self, m: u8, reading: i32) -> [i32; 4] {
-        let t = squares(m, reading);
-        let first = exact_bit(&t, m, 1);
-        let second = exact_bit(&t, m, 2);
-        let third = exact_bit(&t, m, 3);
-        let fourth = exact_bit(&t, m, 4);
-        [first, second, third, fourth]
+    fn soft(&self, axis: Axis, reading: Reading) -> [i32; 4] {
+        let distances = Distances::of(axis, reading);
+        array::from_fn(|place| distances.exact_bit(place as u8 + 1))
     }
 }

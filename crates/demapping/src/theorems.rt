@@ -10,18 +10,16 @@ use crate::by_sign::Hard;
 use crate::by_squares::Exact;
 
 /// What the demappings owe to the facts of the soft bits.
-fn facts() -> u8
+fn facts()
     ensures exact { IsExact exact_demapping }
     ensures gap { Bounded (gap short_demapping) 10745 }
     ensures exact_tells { Tells exact_demapping }
     ensures short_tells { Tells short_demapping }
     ensures hard_tells { Tells hard_demapping }
-{
-    0
-}
+{}
 
 /// `Exact` answers the exact soft bits.
-pub fn exact_is_exact() -> u8
+pub fn exact_is_exact()
     ensures { IsExact exact_demapping }
 {
     facts()
@@ -37,19 +35,19 @@ pub fn short_gap() -> u32
 }
 
 impl Telling for Exact {
-    fn tells(&self) -> u8 {
+    fn tells(&self) {
         facts()
     }
 }
 
 impl Telling for Short {
-    fn tells(&self) -> u8 {
+    fn tells(&self) {
         facts()
     }
 }
 
 impl Telling for Hard {
-    fn tells(&self) -> u8 {
+    fn tells(&self) {
         facts()
     }
 }
