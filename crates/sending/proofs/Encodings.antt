@@ -1,10 +1,10 @@
 -- The steps of an encoder: inputs, states, positions and labels after each. Assumes nothing.
-use Rattle.std.proofs.Common.{◌≡◌, ℕ, zero, suc, ◌+◌, ◌-◌, ◌*◌, ◌/◌, ◌<◌, ◌≤◌, cond, ltb, List, [], ◌∷◌, ◌++◌, length, get_or, take, sym, refl, ap, ◌∙◌, subst, inl, inr, mul_comm, arith}
+use Rattle.std.proofs.Common.{◌≡◌, ℕ, zero, suc, ◌+◌, ◌-◌, ◌*◌, ◌/◌, ◌^◌, ◌<◌, ◌≤◌, List, [], ◌∷◌, ◌++◌, length, get_or, take, sym, refl, ap, ◌∙◌, subst, inl, inr, mul_comm, arith}
 use native.Mathlib.Nat.{div-add-mod}
 use Rattle.std.proofs.lemmas.Nat.{mod_below}
 use Rattle.std.proofs.ByRecursion.{All-get_or, All-take}
 use Rattle.std.proofs.lemmas.List.{append_assoc, append-nil, get_or_append_left, length-take-le, take_all, take_more}
-use Rattle.std.proofs.lemmas.Bool.{cases_lt, cond-false, cond-true, le-ltb, lt-ltb}
+use Rattle.std.proofs.lemmas.Bool.{cases_lt}
 use Rattle.qam.specs.declared.cell.QamCell.{QamCell}
 use Rattle.paths.specs.Codes.{Code}
 use Rattle.paths.specs.Paths.{Inputs, end_from, path_end}
@@ -12,9 +12,13 @@ use Rattle.paths.specs.Endings.{Closer, Tail, Tail.unclosed, Tail.closed_by, Tai
 use Rattle.coding.specs.declared.puncture.Rate.{Rate}
 use Rattle.coding.specs.Puncturing.{sent_before}
 use Rattle.coding.specs.Encoding.{Coding, code_of, inputs_of, sent_at, sent_bits, sent_from, steps_for}
-use Rattle.coding.proofs.Sent.{all_bits, ends_inside, inputs_bits, inputs_size, sent_at_size, sent_from_size}
+use Rattle.coding.proofs.Patterns.{sent_most}
+use Rattle.coding.proofs.Sent.{all_bits, ends_inside, inputs_bits, inputs_size, sent_at_size, sent_from_size, tail_short}
 use Rattle.interleaving.specs.Interleaving.{Interleaving, size}
-use Rattle.sending.specs.Labelling.{Encoded, Holds, Taking}
+use Rattle.interleaving.proofs.Bounds.{size_some}
+use Rattle.sending.specs.Labelling.{Encoded, EncodedFor, Holds, Taking, TakingFor}
+use Rattle.sending.specs.Links.{Link, Planned, block, blocks, cells, sent}
+use Rattle.sending.proofs.Sizes.{cells_are}
 
 -- ---- counts
 
@@ -62,13 +66,12 @@ late C T s (b ∷ ms) zero g h = absurd (omega arith)
 late C T s (b ∷ ms) (suc k) g h = late C T (C.next s b) ms k (omega arith) (omega arith)
 
 module _ (Q : Coding) (ms : List ℕ) where
-  pub input_is : (k : ℕ) → k < steps_for Q (length ms) →
-      get_or (inputs_of Q ms) k 0 ≡ cond (ltb k (length ms)) (get_or ms k 0) (closing_input Q.tail (path_end (code_of Q) (take k (inputs_of Q ms))))
-  input_is k h =
-      elim (cases_lt k (length ms)) [
-        | inl l ↦ get_or_append_left ms (tail_inputs (code_of Q) Q.tail (path_end (code_of Q) ms)) 0 k l ∙ sym (cond-true (ltb k (length ms)) _ _ (lt-ltb k (length ms) l))
-        | inr g ↦ late (code_of Q) Q.tail 0 ms k g h ∙ sym (cond-false (ltb k (length ms)) _ _ (le-ltb k (length ms) g))
-      ]
+  -- the inputs are the message's bits, and past them the closing input of each state
+  pub message_input : (k : ℕ) → k < length ms → get_or ms k 0 ≡ get_or (inputs_of Q ms) k 0
+  message_input k l = sym (get_or_append_left ms (tail_inputs (code_of Q) Q.tail (path_end (code_of Q) ms)) 0 k l)
+
+  pub closing_input_at : (k : ℕ) → length ms ≤ k → k < steps_for Q (length ms) → closing_input Q.tail (path_end (code_of Q) (take k (inputs_of Q ms))) ≡ get_or (inputs_of Q ms) k 0
+  closing_input_at k g h = sym (late (code_of Q) Q.tail 0 ms k g h)
 
   sent_push : (k s : ℕ) (bs : List ℕ) (b : ℕ) → sent_from Q k s (bs ++ b ∷ []) ≡ sent_from Q k s bs ++ sent_at Q (k + length bs) (end_from (code_of Q) s bs) b
   sent_push k s [] b = let e : k ≡ k + 0 = omega arith in append-nil (sent_at Q k s b) ∙ ap (λ x. sent_at Q x s b) e
@@ -142,3 +145,29 @@ module _ (Q : Coding) (ms : List ℕ) where
     encoded_all k s j xs at e =
         let whole : take k (inputs_of Q ms) ≡ inputs_of Q ms = take_all k (inputs_of Q ms) (omega (arith, inputs_size Q ms)) in
         subst (λ ys. Holds X m b (sent_from Q 0 0 ys) xs) whole at.holds
+
+-- ---- a step of a planned link
+
+-- what a step asks
+pub record Ready (L : Link) (k s j v : ℕ) (xs : List QamCell) : Type 0 where
+  pub state : s < (code_of L.coding).states
+  pub input : v < 2
+  pub few : k < 2 ^ 31
+  pub short : j < 2 ^ 31
+  pub taking : TakingFor L j (length (sent_at L.coding k s v)) xs
+
+pub ready : (L : Link) → Planned L → (ms : List ℕ) → Inputs L.K ms → (k s j v : ℕ) (xs : List QamCell) → EncodedFor L ms k s j xs → k < steps_for L.coding (length ms) → v ≡ get_or (inputs_of L.coding ms) k 0 → length xs ≡ cells L →
+    Ready L k s j v xs
+ready L p ms i k s j v xs at early is sized =
+    let Q = L.coding in
+    let few = i.size in
+    let whole : Inputs (length ms) ms = subst (λ n. Inputs n ms) (sym few) i in
+    let some : 0 < block L = size_some L.m L.B p.sizes.some_bits p.sizes.some_cells in
+    let room : sent_before Q.rate (steps_for Q (length ms)) ≤ blocks L * size L.m L.B = subst (λ n. sent_before Q.rate (steps_for Q n) ≤ blocks L * block L) (sym few) (raised_over (sent L) (block L) some) in
+    record {
+      state = state_inside Q ms L.interleaving L.m L.B k s j xs at early p.ending whole;
+      input = omega (arith, is, input_inside Q ms L.interleaving L.m L.B k s j xs at early p.ending whole);
+      few = omega (arith, p.short_message, tail_short (code_of Q) Q.tail p.ending);
+      short = omega (arith, at.position_is, sent_most Q.rate k, p.short_message, tail_short (code_of Q) Q.tail p.ending);
+      taking = encoded_taking Q ms L.interleaving L.m L.B k s j xs at early (blocks L) v (sized ∙ cells_are L p) room;
+    }

@@ -1,15 +1,16 @@
 -- Cells that hold labels: what one more sent bit changes. Assumes nothing.
-use Rattle.std.proofs.Common.{◌≡◌, ℕ, ◌+◌, ◌-◌, ◌*◌, ◌^◌, ◌<◌, ltb, List, [], ◌∷◌, ◌++◌, length, get_or, set, sym, refl, ap, ◌∙◌, subst, inl, inr, arith}
+use Rattle.std.proofs.Common.{◌≡◌, ℕ, ◌+◌, ◌-◌, ◌*◌, ◌^◌, ◌<◌, true, ltb, List, [], ◌∷◌, ◌++◌, length, get_or, set, sym, refl, ap, ◌∙◌, subst, inl, inr, arith}
 use Rattle.std.specs.List.{AllByRecursion}
 use Rattle.std.proofs.ByRecursion.{All-get_or, All-append}
 use Rattle.std.proofs.lemmas.List.{get_or_append_left, get_or_past, get_or_push, get_or-set_same, get_or-set_other, length-set, length_push}
 use Rattle.std.proofs.lemmas.Bool.{cases_lt, cases_eq, cases_order, cond-true, cond-false, lt-ltb, le-ltb}
 use Rattle.qam.specs.declared.cell.QamCell.{QamCell}
-use Rattle.interleaving.specs.Interleaving.{Interleaving, size}
+use Rattle.interleaving.specs.Interleaving.{Interleaving, Sized, size}
 use Rattle.interleaving.specs.Blocks.{Once, bit_of, cell_bits, cell_of, spot}
+use Rattle.interleaving.proofs.Spots.{every_position_once}
 use Rattle.sending.specs.Cells.{bit_at, in_phase_label, number_of, quadrature_label}
-use Rattle.sending.specs.Labelling.{Holds, Labels, holding, raised_to, with_bit}
-use Rattle.sending.proofs.Numbers.{number_below, number_raised, number_same, number_zero}
+use Rattle.sending.specs.Labelling.{Holds, Labels, Taking, holding, raised_to, with_bit}
+use Rattle.sending.proofs.Numbers.{number_below, number_raised, number_same}
 
 -- ---- bits, and 0 past them
 
@@ -42,17 +43,6 @@ module _ (X : Interleaving) (m b : ℕ) where
 
   pub quadrature_below : (bs : List ℕ) → AllByRecursion (λ c. c < 2) bs → (c : ℕ) → quadrature_label X m b bs c < 2 ^ m
   quadrature_below bs a c = number_below (λ i. bit_at bs (spot X m b c (m + i))) m (λ i l. bit_below bs a (spot X m b c (m + i)))
-
-  -- blank cells hold the labels of no bits
-  pub holds_none : (xs : List QamCell) → ((c : ℕ) (d : QamCell) → c < length xs → get_or xs c d ≡ holding 0 0) → Holds X m b [] xs
-  holds_none xs h =
-      record {
-        bits = tt;
-        at = λ c d l.
-            let p : in_phase_label X m b [] c ≡ 0 = number_zero (λ i. bit_at [] (spot X m b c i)) m (λ i j. refl) in
-            let q : quadrature_label X m b [] c ≡ 0 = number_zero (λ i. bit_at [] (spot X m b c (m + i))) m (λ i j. refl) in
-            h c d l ∙ sym (same_holding p q);
-      }
 
   pub holds_labels : (bs : List ℕ) (xs : List QamCell) → Holds X m b bs xs → (c : ℕ) (d : QamCell) → c < length xs → Labels m (get_or xs c d)
   holds_labels bs xs h c d l =
@@ -134,3 +124,7 @@ module _ (X : Interleaving) (m b : ℕ) where
               | inr t ↦ get_or-set_other xs (cell_of X m b (length bs)) c y d t ∙ h.at c d inside ∙ sym (other_cell n once bs v room c low t)
             ];
       }
+
+  -- the cell of the next bit is one of the cells that have room for it
+  pub taking_inside : Sized m b → X.takes m b ≡ true → (j : ℕ) (xs : List QamCell) → Taking X m b j 1 xs → cell_of X m b j < length xs
+  taking_inside z taken j xs t = let once = every_position_once X m b t.blocks z taken in omega (arith, once.cell_inside j (omega (arith, t.room)), t.sized)

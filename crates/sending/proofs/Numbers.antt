@@ -41,11 +41,6 @@ pub number_below : (f : ℕ → ℕ) (n : ℕ) → ((i : ℕ) → i < n → f i 
 number_below f zero h = omega arith
 number_below f (suc n) h = omega (arith, number_below f n (λ i l. h i (omega arith)), h n (omega arith), pow_more n)
 
--- zeros make 0
-pub number_zero : (f : ℕ → ℕ) (n : ℕ) → ((i : ℕ) → i < n → f i ≡ 0) → number_of f n ≡ 0
-number_zero f zero h = refl
-number_zero f (suc n) h = omega (arith, number_zero f n (λ i l. h i (omega arith)), h n (omega arith))
-
 -- digit i of a number is the digit that it was made of
 pub number_digit : (f : ℕ → ℕ) (n i : ℕ) → i < n → ((k : ℕ) → k < n → f k < 2) → number_of f n / 2 ^ (n - suc i) % 2 ≡ f i
 number_digit f zero i l h = absurd (omega arith)

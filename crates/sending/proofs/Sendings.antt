@@ -1,10 +1,10 @@
 -- What a granted send leaves: no row is met, and every position stands in its cell's label. Assumes nothing.
-use Rattle.std.proofs.Common.{◌≡◌, ℕ, suc, ◌+◌, ◌-◌, ◌^◌, ◌<◌, ◌≤◌, Bool, true, false, cond, not, ◌&&◌, ltb, leb, List, [], ◌∷◌, ◌++◌, length, get_or, take, Some, None, sym, refl, ap, ◌∙◌, subst, inl, inr, arith}
+use Rattle.std.proofs.Common.{◌≡◌, ℕ, suc, ◌+◌, ◌-◌, ◌^◌, ◌<◌, ◌≤◌, Bool, true, false, cond, ◌&&◌, ltb, leb, List, [], ◌∷◌, ◌++◌, length, get_or, take, Some, None, sym, refl, ap, ◌∙◌, subst, inl, inr, arith}
 use Rattle.std.specs.List.{AllByRecursion}
 use Rattle.std.proofs.lemmas.List.FromFn.{get_or-map-range_with_len, length-map-range_with_len}
 use Rattle.std.proofs.ByRecursion.{All-get_or}
-use Rattle.std.proofs.lemmas.List.{get_or_append_left}
-use Rattle.std.proofs.lemmas.Bool.{and_from, and_parts, cases_lt, le-leb, le-ltb, lt-ltb, ltb-true, true≢false}
+use Rattle.std.proofs.lemmas.List.{get_or_append_left, length-take-le}
+use Rattle.std.proofs.lemmas.Bool.{and_from, and_parts, cases_lt, le-leb, le-ltb, lt-ltb, ltb-true}
 use Rattle.qam.specs.declared.cell.QamCell.{QamCell}
 use Rattle.qam.specs.Levels.{bit_in, is_label, label, labelled, reading}
 use Rattle.qam.specs.Cells.{Carries, CellCarries}
@@ -15,9 +15,9 @@ use Rattle.coding.proofs.Sent.{all_bits as bits_of, sent_bits_all}
 use Rattle.interleaving.specs.Blocks.{bit_of, cell_of, spot}
 use Rattle.interleaving.proofs.Spots.{every_position_once}
 use Rattle.refusals.specs.Numbers.{first_met}
-use Rattle.sending.specs.Links.{Link, Planned, blocks, cells, plan_refusal, plan_rows}
+use Rattle.sending.specs.Links.{Link, Planned, blocks, cells}
 use Rattle.sending.specs.Cells.{bit_at, cell_with, number_of, sent_cells}
-use Rattle.sending.specs.Sends.{Carried, all_bits, send_refusal}
+use Rattle.sending.specs.Sends.{Carried, all_bits}
 use Rattle.sending.proofs.Labellings.{bit_below, in_phase_below, quadrature_below}
 use Rattle.sending.proofs.Numbers.{number_digit}
 use Rattle.sending.proofs.Sizes.{cells_are}
@@ -33,20 +33,6 @@ then_met (x ∷ xs) ys h = at x.0 x.1 h (then_met xs ys)
     at true n e f = absurd (let z : ◌≡◌ {A = ℕ} 0 1 = cc in omega arith)
     at false n e f = f e
 
-pub no_row : (L : Link) (buffer : List ℕ) (room : ℕ) → plan_refusal L ≡ None → ltb (length buffer) L.K ≡ false → all_bits (take L.K buffer) ≡ true → ltb room (cells L) ≡ false →
-    send_refusal L buffer room ≡ None
-no_row L buffer room plan long bits wide =
-    let short = ltb (length buffer) L.K in
-    let odd = not (all_bits (take L.K buffer)) in
-    let narrow = ltb room (cells L) in
-    then_met (plan_rows L) ((short, 12) ∷ (odd, 13) ∷ (narrow, 14) ∷ []) plan ∙ three short odd narrow long (ap not bits) wide
-  where
-    three : (x y z : Bool) → x ≡ false → y ≡ false → z ≡ false → first_met ((x, 12) ∷ (y, 13) ∷ (z, 14) ∷ []) ≡ None
-    three true y z a b c = absurd (true≢false a)
-    three false true z a b c = absurd (true≢false b)
-    three false false true a b c = absurd (true≢false c)
-    three false false false a b c = refl
-
 -- ---- messages
 
 all_are : (xs : List ℕ) → all_bits xs ≡ true → AllByRecursion (λ c. c < 2) xs
@@ -55,6 +41,11 @@ all_are (x ∷ xs) h = let p = and_parts (ltb x 2) (all_bits xs) h in (ltb-true 
 
 pub message_inputs : (n : ℕ) (xs : List ℕ) → length xs ≡ n → all_bits xs ≡ true → Inputs n xs
 message_inputs n xs e h = record { size = e; bits = λ k l. All-get_or (λ c. c < 2) xs k 0 (omega arith) (all_are xs h) }
+
+-- the first k bytes of a buffer
+pub buffer_inputs : (n k : ℕ) (buffer : List ℕ) → n ≤ length buffer → n ≡ k → all_bits (take n buffer) ≡ true → Inputs k (take n buffer)
+buffer_inputs n k buffer long e bits =
+    subst (λ j. Inputs j (take n buffer)) e (message_inputs n (take n buffer) (length-take-le n buffer long) bits)
 
 -- ---- labels
 

@@ -6,6 +6,7 @@ use Rattle.paths.specs.Paths.{path_end}
 use Rattle.coding.specs.Puncturing.{sent_before}
 use Rattle.coding.specs.Encoding.{Coding, code_of, inputs_of, sent_from}
 use Rattle.interleaving.specs.Interleaving.{Interleaving, size}
+use Rattle.sending.specs.Links.{Link}
 use Rattle.sending.specs.Cells.{in_phase_label, quadrature_label}
 
 -- a cell with the labels p and q
@@ -42,8 +43,18 @@ pub record Taking (X : Interleaving) (m b j w : ℕ) (xs : List QamCell) : Type 
   pub counted : length before ≡ j
   pub holds : Holds X m b before xs
 
+-- the same for the cells of a link
+abbrev pub HoldsFor : Link → List ℕ → List QamCell → Type 0
+HoldsFor L bs xs = Holds L.interleaving L.m L.B bs xs
+
+abbrev pub TakingFor : Link → ℕ → ℕ → List QamCell → Type 0
+TakingFor L j w xs = Taking L.interleaving L.m L.B j w xs
+
 -- After k steps of a message: the state, the position of the next bit, and cells with the labels of the bits sent so far.
 pub record Encoded (X : Interleaving) (m b : ℕ) (Q : Coding) (ms : List ℕ) (k s j : ℕ) (xs : List QamCell) : Type 0 where
   pub state_is : s ≡ path_end (code_of Q) (take k (inputs_of Q ms))
   pub position_is : j ≡ sent_before Q.rate k
   pub holds : Holds X m b (sent_from Q 0 0 (take k (inputs_of Q ms))) xs
+
+abbrev pub EncodedFor : Link → List ℕ → ℕ → ℕ → ℕ → List QamCell → Type 0
+EncodedFor L ms k s j xs = Encoded L.interleaving L.m L.B L.coding ms k s j xs

@@ -3,3 +3,4 @@ pub mod Sizes
 pub mod Cells
 pub mod Sends
 pub mod Labelling
+pub mod PlannedOnce

@@ -7,6 +7,7 @@ use Rattle.interleaving.specs.Interleaving.{Interleaving, Sized, size}
 use Rattle.interleaving.specs.Blocks.{cell_bits}
 use Rattle.refusals.specs.Numbers.{first_met, outside}
 use Rattle.sending.specs.declared.plan.Plan.{Plan}
+use Rattle.sending.specs.declared.link.Link.{Link as Linking}
 
 -- m bits per axis, K message bits, B cells a block; the code, its end and the rate; the interleaver
 pub record Link : Type 0 where
@@ -19,6 +20,10 @@ pub record Link : Type 0 where
 abbrev pub link_of : {E : Type 0} → Plan E → Trellis → Tail → Interleaving → Link
 link_of plan t e x =
     record { m = plan.bits_per_axis; K = plan.message_bits; B = plan.block_cells; coding = record { trellis = t; tail = e; rate = plan.rate }; interleaving = x }
+
+-- what a link means, by the meanings of its code, its end and its interleaver
+abbrev pub linked : {C E I : Type 0} → (C → Trellis) → (E → C → Tail) → (I → Interleaving) → Linking C E I → Link
+linked t e x l = link_of l.plan (t l.code) (e l.plan.end l.code) (x l.interleaver)
 
 -- the steps of the code, and the bits that they send
 abbrev pub steps : Link → ℕ

@@ -1,5 +1,6 @@
 -- What a call of `send` answers, and what it leaves in the cell buffer. Assumes nothing.
-use Rattle.std.specs.Prelude.{◌≡◌, ℕ, ◌<◌, Bool, true, not, ◌&&◌, List, [], ◌∷◌, ◌++◌, length, take, drop, Some, None, Ok, Err, Option, Result, nat_lt, slice_index_or}
+use Rattle.std.specs.Prelude.{◌≡◌, ℕ, ◌<◌, Bool, not, List, [], ◌∷◌, ◌++◌, length, take, drop, Some, None, Ok, Err, Option, Result, nat_lt, slice_index_or}
+use Rattle.std.specs.List.{list_all}
 use Rattle.refusals.specs.declared.Refusal.{Refusal}
 use Rattle.refusals.specs.Numbers.{first_met, number}
 use Rattle.qam.specs.declared.cell.QamCell.{QamCell}
@@ -11,8 +12,7 @@ use Rattle.sending.specs.Cells.{bit_at, sent_cells}
 
 -- each byte is 0 or 1
 abbrev pub all_bits : List ℕ → Bool
-all_bits [] = true
-all_bits (b ∷ bs) = nat_lt b 2 && all_bits bs
+all_bits bs = list_all (λ b. nat_lt b 2) bs
 
 -- after the plan's rows: 12 a message buffer under K bytes, 13 one of its first K bytes not 0 or 1, 14 a cell buffer under C
 abbrev pub send_rows : Link → List ℕ → ℕ → List (Bool × ℕ)

@@ -1,12 +1,10 @@
 // The sender: a plan's sizes, and a message turned into the cells of its frame.
 #![tactic(auto)]
 
-mod encode;
 mod label;
+mod link;
 mod plan;
-mod sender;
-mod size;
+mod planned;
 
+pub use link::Link;
 pub use plan::{FrameSize, Plan};
-pub use sender::send;
-pub use size::frame_size;

@@ -2,7 +2,7 @@
 use coding::Rate;
 
 /// What a frame is planned with: bits per axis, message bits, cells a block, the rate, and how the frame ends.
-#[derive(Clone, Copy)]
+#[derive(Clone, Copy, PartialEq, Eq, Debug)]
 pub struct Plan<E> {
     pub bits_per_axis: u8,
     pub message_bits: u16,
@@ -12,7 +12,7 @@ pub struct Plan<E> {
 }
 
 /// The sizes of a frame: steps of the code, sent bits, positions of a block, positions of the frame, cells.
-#[derive(Clone, Copy)]
+#[derive(Clone, Copy, PartialEq, Eq, Debug)]
 pub struct FrameSize {
     pub steps: usize,
     pub sent: usize,

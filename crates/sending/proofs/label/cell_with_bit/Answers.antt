@@ -5,18 +5,18 @@ use Rattle.qam.proofs.Axes.{levels_few}
 use Rattle.qam.specs.declared.cell.QamCell.{QamCell}
 use Rattle.sending.proofs.label.cell_with_bit.Goals as goal
 
-pub raised-requires : goal.raised-requires
-raised-requires c =
+pub raised-requires-clause-label : goal.raised-requires-clause-label
+raised-requires-clause-label c =
     let l = c.requires.labels in
-    let few = levels_few c.args.bits c.requires.axis.few in
+    let few = levels_few c.args.axis.bits c.args.axis.is_axis.few in
     let is : c.args.cell.in_phase ≡ pos l.in_phase = ap (λ (x : QamCell). x.in_phase) l.are in
     let low : l.in_phase < 16 = omega (arith, l.in_phase_small) in
-    record { label = (l.in_phase, low, omega (arith, ints, is)); below = omega (arith, c.requires.axis.few); bit = c.requires.bit }
+    (l.in_phase, low, omega (arith, ints, is))
 
-pub raised-requires-else-at-m : goal.raised-requires-else-at-m
-raised-requires-else-at-m c =
+pub raised-requires-else-at-m-clause-label : goal.raised-requires-else-at-m-clause-label
+raised-requires-else-at-m-clause-label c =
     let l = c.requires.labels in
-    let few = levels_few c.args.bits c.requires.axis.few in
+    let few = levels_few c.args.axis.bits c.args.axis.is_axis.few in
     let is : c.args.cell.quadrature ≡ pos l.quadrature = ap (λ (x : QamCell). x.quadrature) l.are in
     let low : l.quadrature < 16 = omega (arith, l.quadrature_small) in
-    record { label = (l.quadrature, low, omega (arith, ints, is)); below = omega (arith, c.requires.axis.few, c.if-at-m.false); bit = c.requires.bit }
+    (l.quadrature, low, omega (arith, ints, is))

@@ -5,42 +5,29 @@ use Rattle.interleaving.specs.Blocks.{bit_of, cell_of}
 use Rattle.interleaving.proofs.Spots.{every_position_once}
 use Rattle.sending.specs.Cells.{in_phase_label, quadrature_label}
 use Rattle.sending.specs.Labelling.{Holds, holding, with_bit}
-use Rattle.sending.proofs.Labellings.{holds_labels, holds_more}
+use Rattle.sending.proofs.Labellings.{holds_labels, holds_more, taking_inside}
 use Rattle.sending.proofs.Sizes.{no_cell}
 use Rattle.sending.proofs.label.put_bit.Goals as goal
 
 pub slice_copy_out-cell_with_bit : goal.slice_copy_out-cell_with_bit
 slice_copy_out-cell_with_bit g c =
-    let t = c.requires.taking in
-    let X = g.I.Interleaver.interleaving c.args.interleaver.now in
-    let once = every_position_once X c.args.bits c.args.block_cells t.blocks c.requires.sized c.requires.taken in
-    omega (arith, c.cell_and_bit-cell.ensures.cell, once.cell_inside c.args.position (omega (arith, t.room)), t.sized)
+    let block = c.args.layout.now.block in
+    let X = g.I.Interleaver.interleaving c.args.layout.now.interleaver in
+    rw c.cell_and_bit-cell.ensures.cell (taking_inside X block.bits block.cells block.sized c.args.layout.now.taken c.args.position c.args.cells.now c.requires.taking)
 
-pub offset_bounds-cells-cell : goal.offset_bounds-cells-cell
-offset_bounds-cells-cell g c = let inside = slice_copy_out-cell_with_bit g c in search rules
-
-pub cell_with_bit-requires : goal.cell_with_bit-requires
-cell_with_bit-requires g c =
+pub cell_with_bit-requires-clause-labels : goal.cell_with_bit-requires-clause-labels
+cell_with_bit-requires-clause-labels g c =
     let t = c.requires.taking in
-    let X = g.I.Interleaver.interleaving c.args.interleaver.now in
-    let m = c.args.bits in
-    let b = c.args.block_cells in
-    let once = every_position_once X m b t.blocks c.requires.sized c.requires.taken in
-    let k = c.cell_and_bit-cell.result.0 in
-    let inside : k < length c.args.cells.now = omega (arith, c.cell_and_bit-cell.ensures.cell, once.cell_inside c.args.position (omega (arith, t.room)), t.sized) in
-    record {
-      axis = record { some = c.requires.sized.some_bits; few = c.requires.sized.few_bits };
-      labels = holds_labels X m b t.before c.args.cells.now t.holds k no_cell inside;
-      inside = c.cell_and_bit-cell.ensures.inside;
-      bit = c.requires.bit;
-    }
+    let block = c.args.layout.now.block in
+    let X = g.I.Interleaver.interleaving c.args.layout.now.interleaver in
+    let inside = taking_inside X block.bits block.cells block.sized c.args.layout.now.taken c.args.position c.args.cells.now t in
+    rw c.cell_and_bit-cell.ensures.cell (holds_labels X block.bits block.cells t.before c.args.cells.now t.holds (cell_of X block.bits block.cells c.args.position) no_cell inside)
 
 pub bounds-cells-cell : goal.bounds-cells-cell
 bounds-cells-cell g c =
-    let t = c.requires.taking in
-    let X = g.I.Interleaver.interleaving c.args.interleaver.now in
-    let once = every_position_once X c.args.bits c.args.block_cells t.blocks c.requires.sized c.requires.taken in
-    omega (arith, c.cell_and_bit-cell.ensures.cell, once.cell_inside c.args.position (omega (arith, t.room)), t.sized)
+    let block = c.args.layout.now.block in
+    let X = g.I.Interleaver.interleaving c.args.layout.now.interleaver in
+    rw c.cell_and_bit-cell.ensures.cell (taking_inside X block.bits block.cells block.sized c.args.layout.now.taken c.args.position c.args.cells.now c.requires.taking)
 
 pub offset_bounds-cells-cell-2 : goal.offset_bounds-cells-cell-2
 offset_bounds-cells-cell-2 g c = let inside = bounds-cells-cell g c in search rules
@@ -48,12 +35,13 @@ offset_bounds-cells-cell-2 g c = let inside = bounds-cells-cell g c in search ru
 pub returns : goal.returns
 returns g c bs e h =
     let t = c.requires.taking in
-    let X = g.I.Interleaver.interleaving c.args.interleaver.now in
-    let m = c.args.bits in
-    let b = c.args.block_cells in
+    let X = g.I.Interleaver.interleaving c.args.layout.now.interleaver in
+    let block = c.args.layout.now.block in
+    let m = block.bits in
+    let b = block.cells in
     let xs = c.args.cells.now in
     let y = c.cell_with_bit.result in
-    let once = every_position_once X m b t.blocks c.requires.sized c.requires.taken in
+    let once = every_position_once X m b t.blocks block.sized c.args.layout.now.taken in
     let cell : c.cell_and_bit-cell.result.0 ≡ cell_of X m b (length bs) = c.cell_and_bit-cell.ensures.cell ∙ ap (cell_of X m b) (sym e) in
     let bit : c.cell_and_bit-cell.result.1 ≡ bit_of X m b (length bs) = c.cell_and_bit-cell.ensures.bit ∙ ap (bit_of X m b) (sym e) in
     let room : length bs < t.blocks * size m b = omega (arith, t.room) in
