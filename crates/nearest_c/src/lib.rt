@@ -7,11 +7,19 @@ ghost use Rattle.trellis.specs.Nearest.{FoundNearest, Untouched, search_refusal}
 ghost use Rattle.trellis.specs.Penalties.{soft_at};
 ghost use Rattle.std.specs.Prelude.{◌≡◌, length, ◌≢◌};
 
-use coding::{End, Long, Rate};
+use coding::{Coding, End, Long, Rate};
 use orders::Sum;
-use trellis::nearest_message;
+use trellis::{Stores, nearest_message};
+
+/// The long code, closed, at rate 1/2. A static, not a local: so the compiler knows the rate inside the search (1.0 of plain C, else 1.2).
+static CODING: Coding<Long, End> = Coding {
+    code: Long,
+    end: End::Closed,
+    rate: Rate::Half,
+};
 
 /// Writes the nearest message and its total, and answers 0; or answers the number of the refusal.
+// That number, and seven parameters, are C's interface: C has no `Result`, and lends each store by itself.
 #[unsafe(no_mangle)]
 pub extern "C" fn nearest_long_sum(
     bits: u16,
@@ -26,18 +34,12 @@ pub extern "C" fn nearest_long_sum(
     ensures nearest { result ≡ 0 → FoundNearest long_coding bits sums (soft_at soft.now) message.old message.new total.new }
     ensures refused { (result ≢ 0) → Untouched decisions.old decisions.new totals.old totals.new spare.old spare.new message.old message.new }
 {
-    match nearest_message(
-        &Long,
-        &End::Closed,
-        bits,
-        Rate::Half,
-        soft,
-        &Sum,
+    let stores = Stores {
         decisions,
         totals,
         spare,
-        message,
-    ) {
+    };
+    match nearest_message(&CODING, bits, soft, &Sum, stores, message) {
         Ok(sum) => {
             *total = sum;
             0

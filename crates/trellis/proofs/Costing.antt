@@ -5,12 +5,12 @@ use Rattle.paths.specs.Best.{Small, CostsLaws}
 use Rattle.coding.specs.declared.puncture.Rate.{Rate}
 use Rattle.coding.specs.Puncturing.{sends_first, sends_second, sent_before}
 use Rattle.coding.specs.Encoding.{if_sent}
-use Rattle.trellis.specs.Penalties.{limited, soft_at, AllLimited, penalty, penalties}
-use Rattle.trellis.specs.Steps.{costs_at, width_at, paired, first_pays, second_pays}
+use Rattle.trellis.specs.Penalties.{limited, soft_at, AllLimited, pays_at, penalty, penalties}
+use Rattle.trellis.specs.Steps.{costs_at, width_at, paired}
 
 -- ---- the tables
 
-first_table : (z : ℤ) (c d : ℕ) → c < 2 → d < 2 → get_or (first_pays z) (paired c d) 0 ≡ penalty z c
+first_table : (z : ℤ) (c d : ℕ) → c < 2 → d < 2 → get_or (pays_at 1 z) (paired c d) 0 ≡ penalty z c
 first_table z zero zero h k = refl
 first_table z zero (suc zero) h k = refl
 first_table z (suc zero) zero h k = refl
@@ -19,7 +19,7 @@ first_table z (suc (suc c)) d h k = absurd (omega arith)
 first_table z zero (suc (suc d)) h k = absurd (omega arith)
 first_table z (suc zero) (suc (suc d)) h k = absurd (omega arith)
 
-second_table : (z : ℤ) (c d : ℕ) → c < 2 → d < 2 → get_or (second_pays z) (paired c d) 0 ≡ penalty z d
+second_table : (z : ℤ) (c d : ℕ) → c < 2 → d < 2 → get_or (pays_at 0 z) (paired c d) 0 ≡ penalty z d
 second_table z zero zero h k = refl
 second_table z zero (suc zero) h k = refl
 second_table z (suc zero) zero h k = refl
@@ -28,23 +28,19 @@ second_table z (suc (suc c)) d h k = absurd (omega arith)
 second_table z zero (suc (suc d)) h k = absurd (omega arith)
 second_table z (suc zero) (suc (suc d)) h k = absurd (omega arith)
 
--- what two bits pay whose soft numbers are a and b, each if it is sent
-both_pay : (s t : Bool) (v : ℕ → ℤ) (j : ℕ) (a b : ℤ) → (s ≡ true → a ≡ v j) → (t ≡ true → b ≡ v (j + cond s 1 0)) → (c d : ℕ) → if_sent s (penalty a c) ++ if_sent t (penalty b d) ≡ penalties v j (if_sent s c ++ if_sent t d)
-both_pay true true v j a b ea eb c d =
-    let e : j + 1 ≡ suc j = omega arith in
-    ap (λ (x : ℤ). penalty x c ∷ penalty b d ∷ []) (ea refl) ∙ ap (λ (x : ℤ). penalty (v j) c ∷ penalty x d ∷ []) (eb refl ∙ ap v e)
-both_pay true false v j a b ea eb c d = ap (λ (x : ℤ). penalty x c ∷ []) (ea refl)
-both_pay false true v j a b ea eb c d = let e : j + 0 ≡ j = omega arith in ap (λ (x : ℤ). penalty x d ∷ []) (eb refl ∙ ap v e)
-both_pay false false v j a b ea eb c d = refl
+-- what two bits pay at the positions j and i, each if it is sent
+both_pay : (s t : Bool) (v : ℕ → ℤ) (j i : ℕ) → i ≡ j + cond s 1 0 → (c d : ℕ) → if_sent s (penalty (v j) c) ++ if_sent t (penalty (v i) d) ≡ penalties v j (if_sent s c ++ if_sent t d)
+both_pay true true v j i e c d = let n : i ≡ suc j = omega arith in ap (λ k. penalty (v j) c ∷ penalty (v k) d ∷ []) n
+both_pay true false v j i e c d = refl
+both_pay false true v j i e c d = let n : i ≡ j = omega arith in ap (λ k. penalty (v k) d ∷ []) n
+both_pay false false v j i e c d = refl
 
 -- the tables give what the positions say
-pub tables_pay : (s t : Bool) (v : ℕ → ℤ) (j : ℕ) (a b : ℤ) (ps qs : List ℕ) → (s ≡ true → a ≡ v j) → (t ≡ true → b ≡ v (j + cond s 1 0)) → ps ≡ first_pays a → qs ≡ second_pays b → (c d : ℕ) → c < 2 → d < 2 → if_sent s (get_or ps (paired c d) 0) ++ if_sent t (get_or qs (paired c d) 0) ≡ penalties v j (if_sent s c ++ if_sent t d)
-tables_pay s t v j a b ps qs ea eb ep eq c d hc hd =
-    ap (λ (xs : List ℕ). if_sent s (get_or xs (paired c d) 0) ++ if_sent t (get_or qs (paired c d) 0)) ep
-    ∙ ap (λ (x : ℕ). if_sent s x ++ if_sent t (get_or qs (paired c d) 0)) (first_table a c d hc hd)
-    ∙ ap (λ (xs : List ℕ). if_sent s (penalty a c) ++ if_sent t (get_or xs (paired c d) 0)) eq
-    ∙ ap (λ (x : ℕ). if_sent s (penalty a c) ++ if_sent t x) (second_table b c d hc hd)
-    ∙ both_pay s t v j a b ea eb c d
+pub tables_pay : (s t : Bool) (v : ℕ → ℤ) (j i : ℕ) → i ≡ j + cond s 1 0 → (c d : ℕ) → c < 2 → d < 2 → if_sent s (get_or (pays_at 1 (v j)) (paired c d) 0) ++ if_sent t (get_or (pays_at 0 (v i)) (paired c d) 0) ≡ penalties v j (if_sent s c ++ if_sent t d)
+tables_pay s t v j i e c d hc hd =
+    ap (λ x. if_sent s x ++ if_sent t (get_or (pays_at 0 (v i)) (paired c d) 0)) (first_table (v j) c d hc hd)
+    ∙ ap (λ x. if_sent s (penalty (v j) c) ++ if_sent t x) (second_table (v i) c d hc hd)
+    ∙ both_pay s t v j i e c d
 
 -- ---- the laws
 

@@ -22,7 +22,7 @@ most_sent r (suc k) = omega (arith, most_sent r k)
 pub sent_le : (r : Rate) (k n : ℕ) → k ≤ n → sent_before r k ≤ sent_before r n
 sent_le r k n h = omega (arith, most_le (width_at r) k n h, most_sent r k, most_sent r n)
 
-at_most_one : (b : Bool) → ◌≤◌ (cond b 1 0) 1
+pub at_most_one : (b : Bool) → ◌≤◌ (cond b 1 0) 1
 at_most_one true = omega arith
 at_most_one false = omega arith
 

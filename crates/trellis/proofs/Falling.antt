@@ -18,9 +18,6 @@ pub record Falling {X : Type 0} (M : Metric X) (f : ℕ → Option X) (g : ℕ �
   pub marks : Marks (λ i. g (j + i)) (states - j) word
 
 module _ {X : Type 0} (M : Metric X) (f : ℕ → Option X) (g : ℕ → Bool) (states : ℕ) where
-  pub falling_none : (row : List X) → Falling M f g states states row 0
-  falling_none row = record { totals = λ s t a b e. absurd (omega arith); marks = let e : 0 ≡ states - states = omega arith in subst (λ n. Marks (λ i. g (states + i)) n 0) e (record { below = omega arith; holds = λ s l. absurd (omega arith) }) }
-
   pub falling_more : (j : ℕ) (row : List X) (word : ℕ) (t : X) (b : Bool) → 0 < j → j ≤ states → states ≤ length row → Falling M f g states j row word → f (j - 1) ≡ Some t → b ≡ g (j - 1) → Falling M f g states (j - 1) (set row (j - 1) t) (2 * word + cond b 1 0)
   falling_more j row word t b some most room h e d = record { totals = at; marks = marks_down g states j word b some most h.marks d }
     where

@@ -1,18 +1,25 @@
 -- What the last row and the decision words come to. Assumes nothing.
-use Rattle.std.proofs.Common.{◌≡◌, ℕ, ◌+◌, ◌<◌, ◌≤◌, Bool, true, false, cond, ltb, List, reverse, get_or, take, Some, None, Option, sym, refl, ap, ◌∙◌, subst, arith}
+use Rattle.std.proofs.Common.{◌≡◌, ℕ, ◌+◌, ◌<◌, ◌≤◌, Bool, true, false, cond, ltb, List, reverse, get_or, take, ℤ, Some, None, Option, sym, refl, ap, ◌∙◌, subst, arith, rules}
+use Rattle.std.specs.Option.{IsSome}
 use Rattle.std.proofs.lemmas.Bool.{lt-ltb}
 use Rattle.paths.specs.Codes.{Code}
 use Rattle.paths.specs.Endings.{Tail, Tail.unclosed, Tail.closed_by, TailLaws, closing_steps}
-use Rattle.paths.specs.Orders.{Metric, most_penalties}
+use Rattle.paths.specs.Orders.{Bears, Metric, Ordered, most_penalties}
 use Rattle.paths.specs.Survivors.{Costs, survivor_path, survivor_total, traced}
 use Rattle.paths.specs.Best.{BestMessage, Ended, Least, Setting, SurvivorsBest, most}
 use Rattle.paths.specs.Rows.{Passes, Row, Words, bit_of, bits_of, held}
 use Rattle.paths.proofs.Closings.{closing_takes_steps}
 use Rattle.paths.proofs.Closes.{best_path}
 use Rattle.paths.proofs.Leasts.{no_some}
-use Rattle.paths.proofs.Rows.{least_row, words_trace}
+use Rattle.paths.proofs.Rows.{least_row, row_bears, words_trace}
 use Rattle.paths.proofs.Tracing.{front_traced}
-use Rattle.trellis.specs.Steps.{RowEnd}
+use Rattle.coding.specs.Encoding.{Coding, code_of}
+use Rattle.trellis.specs.Nearest.{LeastTotal}
+use Rattle.trellis.specs.Penalties.{soft_at}
+use Rattle.trellis.specs.Steps.{RowEnd, costs_at, width_at}
+use Rattle.trellis.proofs.Costing.{all_limited, costs_lawful}
+use Rattle.trellis.proofs.Granting.{few_penalties}
+use Rattle.trellis.proofs.Totalling.{least_total}
 
 same_pair : {X : Type 0} {p q : ℕ × X} → Some p ≡ Some q → p ≡ q
 same_pair e = cc
@@ -62,3 +69,31 @@ module _ {X : Type 0} {C : Code} {M : Metric X} {costs : Costs} {width : ℕ →
       found_best ws u out words passes done =
           let e : out ≡ take m (survivor_path C M costs n s) = done ∙ sym (front_traced C (bits_of ws) n s m u passes) ∙ ap (λ (ts : List ℕ). take m (reverse ts)) (words_trace M costs g.code n s ws words end_inside) in
           subst (BestMessage C M costs T m t) (sym e) (paths.ends_best T laws m long s t (closed_end T laws m long c closed s t end))
+
+-- ---- the search of a coding
+
+module _ {X : Type 0} (Q : Coding) (O : Ordered X) (soft : List ℤ) (K closing : ℕ) (laws : TailLaws (code_of Q) Q.tail) (short : K ≤ 4090) (size : closing ≡ closing_steps Q.tail) (row : List X) (mask : ℕ) (full : Row (code_of Q) O.metric (costs_at Q.rate (soft_at soft)) (K + closing) (held O.metric row mask)) (states : ℕ) (same : states ≡ (code_of Q).states) where
+  setting : Setting (code_of Q) O.metric (costs_at Q.rate (soft_at soft)) (width_at Q.rate)
+  setting = record { code = Q.trellis.lawful; order = O.lawful; paid = costs_lawful (soft_at soft) (all_limited soft) Q.rate }
+
+  long : K + closing_steps Q.tail ≡ K + closing
+  long = omega (arith, size)
+
+  fits : most (width_at Q.rate) (K + closing) ≤ most_penalties
+  fits = few_penalties Q.rate (code_of Q) Q.tail K (K + closing) laws short long
+
+  pub end_bears : (s : ℕ) (t : X) → s < states → held O.metric row mask s ≡ Some t → Bears O.metric 0 t
+  end_bears s t l e = row_bears setting 0 (K + closing) (omega (arith, fits)) (held O.metric row mask) full s t (omega (arith, same)) e
+
+  -- the last row has an end, and the way back from there is the nearest message
+  pub has_end : (o : Option (ℕ × X)) → RowEnd O.metric (ltb 0 closing) row mask states o → IsSome o
+  has_end None h = absurd (never_none setting (K + closing) fits row mask full Q.tail laws K long (ltb 0 closing) (ap (ltb 0) size) (subst (λ (i : ℕ). RowEnd O.metric (ltb 0 closing) row mask i None) same h))
+  has_end (Some p) h = search rules
+
+  module _ (o : Option (ℕ × X)) (s : ℕ) (t : X) (found : o ≡ Some (s, t)) (end : RowEnd O.metric (ltb 0 closing) row mask states o) where
+    ends : RowEnd O.metric (ltb 0 closing) row mask (code_of Q).states (Some (s, t))
+    ends = subst (λ (i : ℕ). RowEnd O.metric (ltb 0 closing) row mask i (Some (s, t))) same (subst (λ (x : Option (ℕ × X)). RowEnd O.metric (ltb 0 closing) row mask states x) found end)
+
+    pub finds_least : (ws : List ℕ) (u : ℕ) (out : List ℕ) → Words (code_of Q) O.metric (costs_at Q.rate (soft_at soft)) (K + closing) ws → Passes (code_of Q) (bits_of ws) (K + closing) s K u → out ≡ reverse (traced (code_of Q) (bits_of ws) K u) → LeastTotal Q K O.metric (soft_at soft) out t
+    finds_least ws u out words passes done =
+        least_total Q O.metric (soft_at soft) K t out (found_best setting (K + closing) fits row mask full Q.tail laws K long (ltb 0 closing) (ap (ltb 0) size) s t ends ws u out words passes done)

@@ -1,5 +1,5 @@
 -- One step of the search as a step of the survivors. Assumes nothing.
-use Rattle.std.proofs.Common.{◌≡◌, ℕ, ◌+◌, ◌<◌, List, length, get_or, set, Some, None, Option, sym, refl, ap, ◌∙◌, subst, arith}
+use Rattle.std.proofs.Common.{◌≡◌, ℕ, ◌+◌, ◌<◌, List, length, get_or, set, Some, None, Option, refl, ap, ◌∙◌}
 use Rattle.paths.specs.Codes.{Branch, Code, CodeLaws, Enters}
 use Rattle.paths.specs.Orders.{Metric, adds}
 use Rattle.paths.specs.Survivors.{Costs, along, chosen, takes_second}
@@ -7,15 +7,9 @@ use Rattle.paths.specs.Rows.{Holding, Marks, Row, Words, decision, entry, held}
 use Rattle.paths.proofs.Rows.{held_is, entry_is, words_more}
 use Rattle.trellis.specs.declared.cost.Cost.{Cost}
 use Rattle.trellis.specs.declared.table.Fork.{Fork}
-use Rattle.trellis.specs.Steps.{ForksInside, Tabled, WayInside, carried, fork_higher, fork_total, no_fork, pair_pays, paired, way_by}
+use Rattle.trellis.specs.Steps.{Tabled, carried, fork_higher, fork_total, no_fork, pair_pays, paired, way_by}
 
 module _ {C : Code} (laws : CodeLaws C) (table : List Fork) (tabled : Tabled C C.states table) where
-  pub forks_inside : ForksInside C.states table
-  forks_inside s l = subst (λ (f : Fork). WayInside C.states f.lower × WayInside C.states f.higher) (sym (tabled.stands s l)) (by (C.lower s) (laws.lower_enters s l), by (C.higher s) (laws.higher_enters s l))
-    where
-      by : (r : Branch) → Enters C s r → WayInside C.states (way_by C r)
-      by r e = record { from_state = e.from_state; two_bits = omega (arith, laws.first_bit r.from r.input e.from_state e.by_bit, laws.second_bit r.from r.input e.from_state e.by_bit) }
-
   module _ {X : Type 0} (M : Metric X) (costs : Costs) (k : ℕ) (q : Cost) (pays : (c d : ℕ) → c < 2 → d < 2 → pair_pays q (paired c d) ≡ costs k c d) (totals : ℕ → Option X) where
     carried_along : (s : ℕ) (r : Branch) → Enters C s r → (o : Option X) → carried M q (way_by C r) o ≡ along C M costs k r o
     carried_along s r e None = refl

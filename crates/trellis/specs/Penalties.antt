@@ -1,5 +1,5 @@
 -- What a sent bit pays for the soft number at its position, and what a message's total is. Assumes nothing.
-use Rattle.std.specs.Prelude.{ℕ, suc, ◌-◌, ◌≤◌, min, cond, List, [], ◌∷◌, ℤ, pos, negsuc, ◌==◌, slice_index_or, unsigned_abs}
+use Rattle.std.specs.Prelude.{ℕ, suc, ◌-◌, ◌/◌, ◌%◌, ◌^◌, ◌<◌, ◌≤◌, min, cond, List, [], ◌∷◌, map, ℤ, pos, negsuc, ◌==◌, slice_index, slice_index_or, unsigned_abs}
 use Rattle.paths.specs.Orders.{Metric, adds, heaviest}
 use Rattle.coding.specs.Encoding.{Coding, sent_bits}
 
@@ -20,6 +20,14 @@ AllLimited v = (j : ℕ) → unsigned_abs (v j) ≤ heaviest
 abbrev pub penalty : ℤ → ℕ → ℕ
 penalty (pos n) c = cond (c == 0) n 0
 penalty (negsuc n) c = cond (c == 0) 0 (suc n)
+
+-- what the bit at a place of a pair pays at z, by pairs: the pair 2c + d has c at place 1, and d at place 0
+abbrev pub pays_at : ℕ → ℤ → List ℕ
+pays_at place z = map (λ pair. penalty z (pair / 2 ^ place % 2)) (0 ∷ 1 ∷ 2 ∷ 3 ∷ [])
+
+-- no penalty of a table by pairs is above the heaviest
+abbrev pub Light : List ℕ → Type 0
+Light ps = (e : ℕ) → e < 4 → slice_index ps e ≤ heaviest
 
 -- the penalties of bits that take the positions from j on, one of each bit
 abbrev pub penalties : (ℕ → ℤ) → ℕ → List ℕ → List ℕ

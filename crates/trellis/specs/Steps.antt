@@ -1,18 +1,18 @@
 -- What one step of the search does: its penalties, its table of branches, its row and its decisions. Assumes nothing.
-use Rattle.std.specs.Prelude.{◌≡◌, ℕ, ◌+◌, ◌*◌, ◌<◌, ◌≤◌, Bool, true, false, cond, List, [], ◌∷◌, ◌++◌, get_or, ℤ, Some, None, Option, slice_index, slice_index_or}
+use Rattle.std.specs.Prelude.{◌≡◌, ℕ, ◌+◌, ◌*◌, ◌<◌, Bool, true, false, cond, List, [], ◌∷◌, ◌++◌, get_or, is_some, ℤ, Some, None, Option, slice_index, slice_index_or}
 use Rattle.paths.specs.Codes.{Branch, Code}
-use Rattle.paths.specs.Orders.{Metric, adds, heaviest}
+use Rattle.paths.specs.Orders.{Metric, adds}
 use Rattle.paths.specs.Survivors.{chosen, takes_second}
 use Rattle.paths.specs.Rows.{held, Found}
 use Rattle.coding.specs.declared.puncture.Rate.{Rate}
 use Rattle.coding.specs.Puncturing.{sends_first, sends_second, sent_before}
 use Rattle.coding.specs.Encoding.{if_sent}
-use Rattle.trellis.specs.declared.cost.CodeBit.{CodeBit}
+use Rattle.trellis.specs.declared.cost.BitCost.{BitCost}
 use Rattle.trellis.specs.declared.cost.Cost.{Cost}
 use Rattle.trellis.specs.declared.search.Entered.{Entered}
 use Rattle.trellis.specs.declared.table.Way.{Way}
 use Rattle.trellis.specs.declared.table.Fork.{Fork}
-use Rattle.trellis.specs.Penalties.{penalty, penalties}
+use Rattle.trellis.specs.Penalties.{penalties}
 
 -- ---- penalties
 
@@ -29,29 +29,15 @@ abbrev pub paired : ℕ → ℕ → ℕ
 paired c d = 2 * c + d
 
 -- what a code bit pays where both are the pair e, and what both pay
-abbrev pub pays : CodeBit → ℕ → List ℕ
-pays b e = if_sent b.sent (slice_index b.pays e)
+abbrev pub pays : Option BitCost → ℕ → List ℕ
+pays None e = []
+pays (Some b) e = slice_index b.by_pair e ∷ []
 
 abbrev pub pair_pays : Cost → ℕ → List ℕ
 pair_pays q e = pays q.first e ++ pays q.second e
 
 abbrev pub cost_width : Cost → ℕ
-cost_width q = cond q.first.sent 1 0 + cond q.second.sent 1 0
-
--- the tables of what the first and the second code bit pay at the soft number z
-abbrev pub first_pays : ℤ → List ℕ
-first_pays z = penalty z 0 ∷ penalty z 0 ∷ penalty z 1 ∷ penalty z 1 ∷ []
-
-abbrev pub second_pays : ℤ → List ℕ
-second_pays z = penalty z 0 ∷ penalty z 1 ∷ penalty z 0 ∷ penalty z 1 ∷ []
-
--- no penalty of a code bit is above the heaviest
-abbrev pub Light : List ℕ → Type 0
-Light ps = (e : ℕ) → e < 4 → slice_index ps e ≤ heaviest
-
-pub record LightCost (q : Cost) : Type 0 where
-  pub light_first : Light q.first.pays
-  pub light_second : Light q.second.pays
+cost_width q = cond (is_some q.first) 1 0 + cond (is_some q.second) 1 0
 
 -- ---- branches
 

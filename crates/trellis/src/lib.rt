@@ -2,12 +2,17 @@
 #![tactic(auto)]
 
 mod cost;
+mod nearest;
 mod penalty;
 mod search;
 mod step;
+mod stores;
 mod table;
 mod theorems;
+mod totals;
+mod words;
 
+pub use nearest::nearest_message;
 pub use penalty::penalty_at;
-pub use search::nearest_message;
+pub use stores::Stores;
 pub use theorems::{nearest_is_one, worked_totals};

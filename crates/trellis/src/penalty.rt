@@ -11,13 +11,7 @@ fn limit_soft(soft: i32) -> i32
     ensures is { result ≡ limited soft }
     ensures small { unsigned_abs result ≤ heaviest }
 {
-    if soft > HEAVIEST {
-        HEAVIEST
-    } else if soft < -HEAVIEST {
-        -HEAVIEST
-    } else {
-        soft
-    }
+    soft.clamp(-HEAVIEST, HEAVIEST)
 }
 
 /// What a bit pays for a soft number within the limit.
@@ -26,13 +20,8 @@ fn pay(soft: i32, bit: u8) -> u32
     ensures is { result ≡ penalty soft bit }
     ensures light { result ≤ heaviest }
 {
-    if bit == 0 {
-        if soft > 0 { soft as u32 } else { 0 }
-    } else if soft < 0 {
-        (-soft) as u32
-    } else {
-        0
-    }
+    let against = if bit == 0 { soft } else { -soft };
+    against.max(0) as u32
 }
 
 /// What the sent bit pays at a soft number: its size where the two disagree, and else nothing.

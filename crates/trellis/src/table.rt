@@ -1,6 +1,6 @@
 // The branches of a code as a table, made once for a search.
 ghost use Rattle.std.specs.Prelude.{◌≡◌, ◌<◌, ◌≤◌, length};
-ghost use Rattle.trellis.specs.Steps.{Tabled, fork_at, way_by};
+ghost use Rattle.trellis.specs.Steps.{ForksInside, Tabled, fork_at, way_by};
 
 use coding::Code;
 
@@ -16,6 +16,18 @@ pub struct Way {
 pub struct Fork {
     pub lower: Way,
     pub higher: Way,
+}
+
+/// The branches into every state, made once for a search.
+//
+// An array for the most states, and their number beside it: nothing is allocated here, and a code's number of states is a function of its
+// value, so that no array type can have it.
+#[derive(Drop)]
+pub struct Table {
+    pub forks: [Fork; 64],
+    pub states: usize,
+    ghost few: { states ≤ 64 },
+    ghost inside: { ForksInside states forks },
 }
 
 /// The branch out of a state by an input.
@@ -44,11 +56,31 @@ fn fork_into<C: Code>(code: &C, state: u8) -> Fork
 }
 
 /// Writes the branches into every state.
-pub(crate) fn tabulate<C: Code>(code: &C, table: &mut [Fork])
-    requires { (C.Code.trellis code.now).code.states ≤ length table.old }
-    ensures { Tabled (C.Code.trellis code.now).code (C.Code.trellis code.now).code.states table.new }
+fn tabulate<C: Code>(code: &C, forks: &mut [Fork])
+    requires { (C.Code.trellis code.now).code.states ≤ length forks.old }
+    ensures { Tabled (C.Code.trellis code.now).code (C.Code.trellis code.now).code.states forks.new }
 {
-    for state in 0..code.states() {
-        table[state as usize] = fork_into(code, state);
+    let states = usize::from(code.states());
+    for (state, fork) in forks[..states].iter_mut().enumerate() {
+        *fork = fork_into(code, state as u8);
+    }
+}
+
+impl Table {
+    /// The table of a code.
+    pub(crate) fn new<C: Code>(code: &C) -> Table
+        ensures states { result.states ≡ (C.Code.trellis code.now).code.states }
+        ensures tabled { Tabled (C.Code.trellis code.now).code (C.Code.trellis code.now).code.states result.forks }
+    {
+        let none = Way { from: 0, bits: 0 };
+        let mut forks = [Fork {
+            lower: none,
+            higher: none,
+        }; 64];
+        tabulate(code, &mut forks);
+        Table {
+            forks,
+            states: usize::from(code.states()),
+        }
     }
 }
