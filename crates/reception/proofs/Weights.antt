@@ -1,23 +1,15 @@
 -- Products of a weight and a soft bit. Assumes nothing.
-use Rattle.std.proofs.Common.{◌≡◌, ℕ, zero, suc, ◌*◌, ◌<◌, ◌≤◌, ℤ, pos, negsuc, ◌*ℤ◌, neg_ℤ, nat_abs, ◌<ℤ◌, refl, mul-pos, arith}
+use Rattle.std.proofs.Common.{ℕ, zero, suc, ◌*◌, ◌<◌, ◌≤◌, ℤ, pos, negsuc, ◌*ℤ◌, neg_ℤ, nat_abs, ◌<ℤ◌, mul-pos, arith}
 use borrow.Author.Differences.{lt_out}
 use Rattle.std.proofs.lemmas.Nat.{mul-le}
-use Rattle.std.proofs.lemmas.Int.{ints}
+use Rattle.std.proofs.lemmas.Int.{ints, unsigned_abs-mul}
 use Rattle.paths.specs.Orders.{heaviest}
 use Rattle.softbits.specs.Demapping.{soft_limit}
 use Rattle.reception.specs.Entries.{weight_limit}
 
-abs_neg : (n : ℕ) → nat_abs (neg_ℤ (pos n)) ≡ n
-abs_neg zero = refl
-abs_neg (suc n) = refl
-
-pub abs_product : (w : ℕ) (x : ℤ) → nat_abs (pos w *ℤ x) ≡ w * nat_abs x
-abs_product w (pos n) = refl
-abs_product w (negsuc n) = abs_neg (w * suc n)
-
 -- no weighted soft bit is beyond the heaviest penalty
 pub weighted_small : (w : ℕ) (x : ℤ) → w ≤ weight_limit → nat_abs x ≤ soft_limit → nat_abs (pos w *ℤ x) ≤ heaviest
-weighted_small w x h g = omega (arith, abs_product w x, mul-le w (nat_abs x) 1023 16383 h g)
+weighted_small w x h g = omega (arith, unsigned_abs-mul (pos w) x, mul-le w (nat_abs x) 1023 16383 h g)
 
 neg_below : (n : ℕ) → 0 < n → neg_ℤ (pos n) <ℤ pos 0
 neg_below zero h = absurd (omega arith)

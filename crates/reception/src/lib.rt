@@ -6,31 +6,29 @@ ghost use Rattle.reception.specs.Theorems.{LeastIsNearest, SumsPreferFree, Unhar
 ghost use Rattle.reception.specs.Unharmed.{PrefersFree};
 
 /// Carries what proofs/ shows, for the public functions below.
-fn shown<X>() -> u8
+fn shown<X>()
     ensures nearest { LeastIsNearest X }
     ensures back { UnharmedComesBack X }
     ensures sums { SumsPreferFree X }
     ensures counts { PrefersFree counts }
-{
-    0
-}
+{}
 
 /// The message of the least total is as near as the demapper allows, and with the exact demapper the nearest.
-pub fn least_is_nearest<X>() -> u8
+pub fn least_is_nearest<X>()
     ensures { LeastIsNearest X }
 {
     shown::<X>()
 }
 
 /// Cells that came unharmed lead back to a message that sends the same cells.
-pub fn unharmed_comes_back<X>() -> u8
+pub fn unharmed_comes_back<X>()
     ensures { UnharmedComesBack X }
 {
     shown::<X>()
 }
 
 /// Every order whose totals are sums prefers what pays nothing, and so does the one that counts first.
-pub fn orders_prefer_free<X>() -> u8
+pub fn orders_prefer_free<X>()
     ensures sums { SumsPreferFree X }
     ensures count_first { PrefersFree counts }
 {
