@@ -1,17 +1,8 @@
--- A total that goes on step by step is the total of the path. Assumes nothing.
+-- The closing inputs that are left at each step, and the inputs that are left of a message. Assumes nothing.
 use Rattle.std.proofs.Common.{◌≡◌, ℕ, suc, ◌<◌, ◌≤◌, List, [], ◌∷◌, ◌++◌, refl, arith}
 use Rattle.paths.specs.Codes.{Code}
 use Rattle.paths.specs.Paths.{end_from}
 use Rattle.paths.specs.Endings.{Tail, Tail.unclosed, Tail.closed_by, closing, TailLaws, closing_input, closing_steps, tail_inputs}
-use Rattle.paths.specs.Orders.{Metric}
-use Rattle.paths.specs.Survivors.{Costs, stepped}
-use Rattle.paths.specs.Best.{total_from}
-
-module _ {X : Type 0} (C : Code) (M : Metric X) (costs : Costs) where
-  -- one step more
-  pub onward : (k k' s s' b : ℕ) (t t' : X) (bs : List ℕ) → k' ≡ suc k → s' ≡ C.next s b → t' ≡ stepped C M costs k s b t →
-      total_from C M costs k' s' t' bs ≡ total_from C M costs k s t (b ∷ bs)
-  onward k k' s s' b t t' bs e f g = cc
 
 -- the last n closing inputs, from the state s on
 abbrev pub left_over : Code → Tail → ℕ → ℕ → List ℕ

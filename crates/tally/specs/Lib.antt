@@ -1,1 +1,3 @@
 pub mod Reckoning
+pub mod Spelling
+pub mod Walks

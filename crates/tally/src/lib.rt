@@ -5,6 +5,6 @@ mod listing;
 mod reading;
 mod reckoning;
 
-pub use listing::{nearest_by_listing, spell};
+pub use listing::spell;
 pub use reading::{Readable, Reading};
-pub use reckoning::reckon;
+pub use reckoning::Reckoner;

@@ -1,144 +1,142 @@
 // The total of one message: it is encoded, and each sent bit pays.
-ghost use Rattle.std.specs.Prelude.{◌≡◌, ◌+◌, ◌-◌, ◌*◌, ◌<◌, ◌≤◌, pos, IfSome, slice_index_or};
-ghost use Rattle.coding.specs.Encoding.{if_sent};
-ghost use Rattle.paths.specs.Best.{total_from};
-ghost use Rattle.paths.specs.Endings.{TailLaws, closing_steps, tail_inputs};
+ghost use Rattle.std.specs.Bool.{then_some};
+ghost use Rattle.std.specs.Int.{from_bool};
+ghost use Rattle.std.specs.Prelude.{◌≡◌, ℕ, suc, ◌+◌, ◌<◌, ◌≤◌, pos, IfSome, slice_index_or};
+ghost use Rattle.coding.specs.Encoding.{code_of};
+ghost use Rattle.coding.specs.Meaning.{coding_of};
+ghost use Rattle.coding.specs.Puncturing.{sends_first, sends_second, sent_before};
+ghost use Rattle.paths.specs.Endings.{tail_inputs};
 ghost use Rattle.paths.specs.Orders.{Bears, adds};
 ghost use Rattle.tally.specs.Reckoning.{Reckoned};
-ghost use Rattle.trellis.specs.Nearest.{coded};
-ghost use Rattle.trellis.specs.Penalties.{limited, penalty, soft_at};
-ghost use Rattle.trellis.specs.Steps.{costs_at};
+ghost use Rattle.tally.specs.Walks.{Going, comes_to, paid_at, walked};
+ghost use Rattle.trellis.specs.Penalties.{soft_at};
 
-use coding::{Code, Ending, Rate, sent_code_bits, sent_in};
+use coding::{Code, Coding, Ending, sent_code_bits, sent_in};
 use orders::Order;
 use trellis::penalty_at;
 
-/// A total with the penalty of a code bit, if it is sent; so many penalties more may follow.
-fn with_bit<O: Order>(
-    order: &O,
-    total: O::Total,
-    sent: bool,
-    soft: i32,
-    bit: u8,
-    left: usize,
-) -> O::Total
-    requires { Bears (O.Order.order order.now).metric (left + 1) total }
-    ensures is { result ≡ adds (O.Order.order order.now).metric total (if_sent sent (penalty (limited soft) bit)) }
-    ensures bears { Bears (O.Order.order order.now).metric left result }
-{
-    if sent {
-        order.add(total, penalty_at(soft, bit))
-    } else {
-        total
-    }
+/// What messages are reckoned by: a coding, the soft numbers of the positions, and an order of totals.
+#[derive(Clone, Copy)]
+pub struct Reckoner<'a, C, E, O> {
+    pub coding: &'a Coding<C, E>,
+    pub soft: &'a [i32],
+    pub order: &'a O,
 }
 
-/// The soft number of a position, or 0 past the end.
-fn soft_or_zero(soft: &[i32], position: usize) -> i32
-    ensures { result ≡ slice_index_or soft.now position (pos 0) }
-{
-    if position < soft.len() {
-        soft[position]
-    } else {
-        0
-    }
-}
-
-/// One step of the code: the next state, and the total with what the step's code bits pay.
-fn reckon_step<C: Code, O: Order>(
-    code: &C,
-    rate: Rate,
-    soft: &[i32],
-    order: &O,
+/// How far a message is reckoned: the next step, the state, and the total so far.
+// A walk of its own, here and in the listing, though the sender has one: the search and the sender are held against these totals,
+// so they share no code with them.
+#[derive(Clone, Copy)]
+struct Walk<T> {
     step: usize,
     state: u8,
-    input: u8,
-    total: O::Total,
-) -> (u8, O::Total)
-    requires state { state < (C.Code.trellis code.now).code.states }
-    requires input { input < 2 }
-    requires short { step < 4096 }
-    requires bears { Bears (O.Order.order order.now).metric (2 * (4096 - step)) total }
-    ensures next { result.0 ≡ (C.Code.trellis code.now).code.next state input }
-    ensures paid { result.1 ≡ adds (O.Order.order order.now).metric total (costs_at rate (soft_at soft.now) step ((C.Code.trellis code.now).code.first state input) ((C.Code.trellis code.now).code.second state input)) }
-    ensures bears { Bears (O.Order.order order.now).metric (2 * (4096 - (step + 1))) result.1 }
-{
-    let (next, first, second) = code.branch(state, input);
-    let (first_sent, second_sent) = sent_code_bits(rate, step);
-    let position = sent_in(rate, step as u32) as usize;
-    let after = if first_sent { position + 1 } else { position };
-    let left = 2 * (4095 - step);
-    let first_soft = soft_or_zero(soft, position);
-    let second_soft = soft_or_zero(soft, after);
-    let once = with_bit(order, total, first_sent, first_soft, first, left + 1);
-    let twice = with_bit(order, once, second_sent, second_soft, second, left);
-    (next, twice)
+    total: T,
 }
 
-/// The total after the closing steps, from the step `from` on.
-fn close<C: Code, E: Ending<C>, O: Order>(
-    code: &C,
-    end: &E,
-    rate: Rate,
-    soft: &[i32],
-    order: &O,
-    from: usize,
-    steps: usize,
-    state: u8,
-    total: O::Total,
-) -> O::Total
-    requires state { state < (C.Code.trellis code.now).code.states }
-    requires lawful { TailLaws (C.Code.trellis code.now).code (E.Ending.tail end.now code.now) }
-    requires steps { steps ≡ from + closing_steps (E.Ending.tail end.now code.now) }
-    requires short { steps ≤ 4096 }
-    requires bears { Bears (O.Order.order order.now).metric (2 * (4096 - from)) total }
-    ensures is { result ≡ total_from (C.Code.trellis code.now).code (O.Order.order order.now).metric (costs_at rate (soft_at soft.now)) from state total (tail_inputs (C.Code.trellis code.now).code (E.Ending.tail end.now code.now) state) }
-    ensures bears { Bears (O.Order.order order.now).metric 0 result }
-{
-    let mut reached = state;
-    let mut sum = total;
-    for step in from..steps {
-        let input = end.closing_input(code, reached);
-        (reached, sum) = reckon_step(code, rate, soft, order, step, reached, input, sum);
+impl<'a, C: Code, E: Ending<C>, O: Order> Reckoner<'a, C, E, O> {
+    /// The soft number of a position, or 0 past the end, if a bit is sent there.
+    // Here the flag of `sent_code_bits` becomes an Option.
+    fn soft_number(&self, position: usize, sent: bool) -> Option<i32>
+        ensures { result ≡ then_some sent (slice_index_or self.now.soft.now position (pos 0)) }
+    {
+        sent.then_some(self.soft.get(position).copied().unwrap_or(0))
     }
-    sum
-}
 
-/// The total of a message of at most 4,090 bits; None for a longer one, and for a byte that is no bit. A soft number past the end
-/// is 0.
-pub fn reckon<C: Code, E: Ending<C>, O: Order>(
-    code: &C,
-    end: &E,
-    rate: Rate,
-    soft: &[i32],
-    order: &O,
-    message: &[u8],
-) -> Option<O::Total>
-    ensures is { Reckoned (coded (C.Code.trellis code.now) (E.Ending.tail end.now code.now) rate) (O.Order.order order.now).metric (soft_at soft.now) message.now result }
-    ensures bears { IfSome result (λ t. Bears (O.Order.order order.now).metric 0 t) }
-{
-    if message.len() > 4090 {
-        return None;
+    /// The soft numbers of the two code bits of a step, each if it is sent.
+    #[tactic(auto, using(coding::proofs::Patterns::sent_most, crate::proofs::Walks::byte_most))]
+    fn soft_numbers(&self, step: usize) -> (Option<i32>, Option<i32>)
+        requires { step < 4096 }
+        ensures first { result.0 ≡ then_some (sends_first self.now.coding.now.rate step) (slice_index_or self.now.soft.now (sent_before self.now.coding.now.rate step) (pos 0)) }
+        ensures second { result.1 ≡ then_some (sends_second self.now.coding.now.rate step) (slice_index_or self.now.soft.now (sent_before self.now.coding.now.rate step + from_bool (sends_first self.now.coding.now.rate step)) (pos 0)) }
+    {
+        let (first_sent, second_sent) = sent_code_bits(self.coding.rate, step);
+        let position = sent_in(self.coding.rate, step as u32) as usize;
+        let after = position + usize::from(first_sent);
+        let first_soft = self.soft_number(position, first_sent);
+        let second_soft = self.soft_number(after, second_sent);
+        (first_soft, second_soft)
     }
-    let steps = message.len() + end.closing_steps(code) as usize;
-    let mut state = 0;
-    let mut total = order.zero();
-    for step in 0..message.len() {
-        let input = message[step];
-        if input > 1 {
+
+    /// A total with the penalty of a code bit at its soft number, if it is sent.
+    fn pay(&self, total: O::Total, soft: Option<i32>, bit: u8) -> O::Total
+        requires { Bears (O.Order.order self.now.order.now).metric 1 total }
+        ensures is { result ≡ adds (O.Order.order self.now.order.now).metric total (paid_at soft bit) }
+        ensures bears { (n : ℕ) → Bears (O.Order.order self.now.order.now).metric (suc n) total → Bears (O.Order.order self.now.order.now).metric n result }
+    {
+        match soft {
+            Some(number) => self.order.add(total, penalty_at(number, bit)),
+            None => total,
+        }
+    }
+
+    /// A total with the penalties of two code bits.
+    fn pay_both(
+        &self,
+        total: O::Total,
+        first_soft: Option<i32>,
+        first: u8,
+        second_soft: Option<i32>,
+        second: u8,
+    ) -> O::Total
+        requires { Bears (O.Order.order self.now.order.now).metric 2 total }
+        ensures { result ≡ adds (O.Order.order self.now.order.now).metric (adds (O.Order.order self.now.order.now).metric total (paid_at first_soft first)) (paid_at second_soft second) }
+    {
+        let once = self.pay(total, first_soft, first);
+        self.pay(once, second_soft, second)
+    }
+
+    /// One step by an input: its sent bits pay.
+    fn step(&self, walk: Walk<O::Total>, input: u8) -> Walk<O::Total>
+        requires input { input < 2 }
+        requires short { walk.step < 4096 }
+        requires going { Going (coding_of C.Code.trellis E.Ending.tail self.now.coding.now) (O.Order.order self.now.order.now).metric walk }
+        ensures { result ≡ walked (coding_of C.Code.trellis E.Ending.tail self.now.coding.now) (O.Order.order self.now.order.now).metric (soft_at self.now.soft.now) walk input }
+    {
+        let (state, first, second) = self.coding.code.branch(walk.state, input);
+        let (first_soft, second_soft) = self.soft_numbers(walk.step);
+        let total = self.pay_both(walk.total, first_soft, first, second_soft, second);
+        Walk {
+            step: walk.step + 1,
+            state,
+            total,
+        }
+    }
+
+    /// The total after the closing steps.
+    fn close(&self, from: Walk<O::Total>) -> O::Total
+        requires short { from.step ≤ 4090 }
+        requires going { Going (coding_of C.Code.trellis E.Ending.tail self.now.coding.now) (O.Order.order self.now.order.now).metric from }
+        ensures is { result ≡ comes_to (coding_of C.Code.trellis E.Ending.tail self.now.coding.now) (O.Order.order self.now.order.now).metric (soft_at self.now.soft.now) from (tail_inputs (code_of (coding_of C.Code.trellis E.Ending.tail self.now.coding.now)) (coding_of C.Code.trellis E.Ending.tail self.now.coding.now).tail from.state) }
+        ensures bears { Bears (O.Order.order self.now.order.now).metric 0 result }
+    {
+        let mut walk = from;
+        for _ in 0..self.coding.end.closing_steps(&self.coding.code) {
+            let input = self.coding.end.closing_input(&self.coding.code, walk.state);
+            walk = self.step(walk, input);
+        }
+        walk.total
+    }
+
+    /// The total of a message of at most 4,090 bits; None for a longer one, and for a byte that is no bit. A soft number past the
+    /// end is 0.
+    pub fn reckon(&self, message: &[u8]) -> Option<O::Total>
+        ensures is { Reckoned (coding_of C.Code.trellis E.Ending.tail self.now.coding.now) (O.Order.order self.now.order.now).metric (soft_at self.now.soft.now) message.now result }
+        ensures bears { IfSome result (λ t. Bears (O.Order.order self.now.order.now).metric 0 t) }
+    {
+        if message.len() > 4090 {
             return None;
         }
-        (state, total) = reckon_step(code, rate, soft, order, step, state, input, total);
+        let mut walk = Walk {
+            step: 0,
+            state: 0,
+            total: self.order.zero(),
+        };
+        for &input in message {
+            if input > 1 {
+                return None;
+            }
+            walk = self.step(walk, input);
+        }
+        Some(self.close(walk))
     }
-    Some(close(
-        code,
-        end,
-        rate,
-        soft,
-        order,
-        message.len(),
-        steps,
-        state,
-        total,
-    ))
 }
