@@ -2,4 +2,3 @@ pub mod Products
 pub mod Placing
 pub mod Laying
 pub mod Entering
-pub mod Decoding

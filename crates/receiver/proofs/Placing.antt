@@ -1,5 +1,5 @@
 -- Positions, cells and bits without a bound on the position. Assumes nothing.
-use Rattle.std.proofs.Common.{◌≡◌, ℕ, suc, ◌*◌, ◌%◌, ◌<◌, true, sym, refl, ap, ◌∙◌, arith}
+use Rattle.std.proofs.Common.{◌≡◌, ℕ, suc, ◌*◌, ◌%◌, ◌<◌, ◌≤◌, true, sym, ap, ◌∙◌, arith}
 use Rattle.std.proofs.lemmas.Nat.{mod_below, mul-le, mul-lt}
 use Rattle.interleaving.specs.Interleaving.{Interleaving, Sized, size}
 use Rattle.interleaving.specs.Blocks.{bit_of, cell_bits, cell_of, spot}
@@ -18,10 +18,6 @@ module _ (X : Interleaving) (m b : ℕ) (z : Sized m b) where
       let h : j < suc j * size m b = let some = block_some in omega (arith, mul-le (suc j) 1 (suc j) (size m b) (omega arith) some) in
       sym ((every_position_once X m b (suc j) z t).its_spot j h) ∙ ap (λ x. spot X m b x (bit_of X m b j)) hc ∙ ap (spot X m b c) hi
 
-  -- past n blocks of positions stand the cells past n blocks
-  pub cell_past : X.takes m b ≡ true → (n j : ℕ) → cell_of X m b j < n * b → j < n * size m b
-  cell_past t n j h =
-      let k = cell_of X m b j in
-      let i = bit_of X m b j in
-      let e = only_spot t j k i refl refl in
-      omega (arith, (every_position_once X m b n z t).spot_inside k i h (bit_below j))
+  -- the spot of a bit of a cell lies in the blocks that have the cell
+  pub spot_in : X.takes m b ≡ true → (n len c i : ℕ) → n * size m b ≤ len → c < n * b → i < cell_bits m → spot X m b c i < len
+  spot_in t n len c i room hc hi = omega (arith, (every_position_once X m b n z t).spot_inside c i hc hi)

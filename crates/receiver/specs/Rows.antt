@@ -13,13 +13,20 @@ store_row L store = (nat_lt store (positions L), 5)
 abbrev pub open_rows : Link → ℕ → List (Bool × ℕ)
 open_rows L store = plan_rows L ++ store_row L store ∷ []
 
--- a cell, with `store` numbers lent, when `come` cells have come: 5, then 6 a reading out of range, 7 a weight out of range, 8 a full frame
+-- 6: a reading out of range; 7: a weight out of range
+abbrev pub range_rows : QamCell → List (Bool × ℕ)
+range_rows x = (nat_lt 2047 (unsigned_abs x.in_phase) || nat_lt 2047 (unsigned_abs x.quadrature), 6) ∷ (nat_lt 1023 x.weight, 7) ∷ []
+
+-- 8: a full frame, when `come` cells have come
+abbrev pub full_row : Link → ℕ → Bool × ℕ
+full_row L come = (not (nat_lt come (cells L)), 8)
+
+-- a cell, with `store` numbers lent: 5, then 6 and 7, then 8
 abbrev pub cell_rows : Link → ℕ → ℕ → QamCell → List (Bool × ℕ)
-cell_rows L store come x =
-    store_row L store ∷ (nat_lt 2047 (unsigned_abs x.in_phase) || nat_lt 2047 (unsigned_abs x.quadrature), 6) ∷ (nat_lt 1023 x.weight, 7) ∷ (not (nat_lt come (cells L)), 8) ∷ []
+cell_rows L store come x = store_row L store ∷ range_rows x ++ full_row L come ∷ []
 
 abbrev pub lost_rows : Link → ℕ → ℕ → List (Bool × ℕ)
-lost_rows L store come = store_row L store ∷ (not (nat_lt come (cells L)), 8) ∷ []
+lost_rows L store come = store_row L store ∷ full_row L come ∷ []
 
 -- 9: cells are missing
 abbrev pub seal_rows : Link → ℕ → List (Bool × ℕ)

@@ -1,7 +1,8 @@
 -- What a cell writes into the soft store. Assumes nothing.
-use Rattle.std.specs.Prelude.{ℕ, suc, ◌-◌, cond, List, [], ◌∷◌, ℤ, pos, ◌*ℤ◌, ◌==◌, nat_lt, slice_index_or}
+use Rattle.std.specs.Prelude.{ℕ, suc, ◌-◌, ◌<◌, ◌≤◌, cond, List, [], ◌∷◌, ℤ, pos, ◌*ℤ◌, ◌==◌, nat_lt, slice_index_or, unsigned_abs}
 use Rattle.interleaving.specs.Interleaving.{Interleaving}
 use Rattle.interleaving.specs.Blocks.{bit_of, cell_of}
+use Rattle.softbits.specs.Demapping.{soft_limit}
 use Rattle.reception.specs.Entries.{Entry, Reception, bit_in, weighted}
 
 -- f of each number and its position, from j on
@@ -20,3 +21,7 @@ written R c e store = with_cell R.link.interleaving R.link.m R.link.B c (λ b. w
 -- bit b of a cell whose axes' answers are p and q, times its weight
 abbrev pub laid : ℕ → List ℤ → List ℤ → ℕ → ℕ → ℤ
 laid m p q weight b = pos weight *ℤ cond (nat_lt b m) (slice_index_or p b (pos 0)) (slice_index_or q (b - m) (pos 0))
+
+-- the four answers of an axis are within a demapper's range
+abbrev pub Small : List ℤ → Type 0
+Small p = (k : ℕ) → k < 4 → unsigned_abs (slice_index_or p k (pos 0)) ≤ soft_limit

@@ -4,4 +4,4 @@
 mod filling;
 mod frame;
 mod sealed;
-mod store;
+mod soft_cell;
