@@ -1,12 +1,118 @@
 // The published piecewise forms of the exact soft bits, in level units there and in steps here.
-ghost use Rattle.std.specs.Prelude.{◌<◌, ◌≤◌, unsigned_abs};
-ghost use Rattle.qam.specs.Levels.{Axis};
-ghost use Rattle.softbits.specs.SoftBits.{Reading};
+ghost use Rattle.std.specs.Prelude.{◌*◌, ◌^◌, ◌<◌, ◌≤◌, unsigned_abs};
 
+use qam::{Axis, Reading};
 use std::fmt;
 
 /// One unit of level, in steps.
 const UNIT: i32 = 64;
+
+/// So many times a size.
+fn product(times: i8, size: u16) -> i32
+    ensures { unsigned_abs result ≤ 128 * 65535 }
+{
+    i32::from(times) * i32::from(size)
+}
+
+/// A piece of a form, in units: from a size on, so many times the size, and so much more.
+#[derive(Clone, Copy)]
+struct Piece {
+    from: i8,
+    slope: i8,
+    offset: i8,
+}
+
+impl Piece {
+    /// Whether it has begun at a size in steps.
+    fn begins_by(self, size: u16) -> bool {
+        i32::from(self.from) * UNIT <= i32::from(size)
+    }
+
+    /// What it gives a size in steps.
+    fn at(self, size: u16) -> i32
+        ensures { unsigned_abs result < 2 ^ 24 }
+    {
+        product(self.slope, size) + i32::from(self.offset) * UNIT
+    }
+}
+
+// y, then 2(y − 1) from 2.
+const QAM16_FIRST: [Piece; 2] = [
+    Piece {
+        from: 0,
+        slope: 1,
+        offset: 0,
+    },
+    Piece {
+        from: 2,
+        slope: 2,
+        offset: -2,
+    },
+];
+
+// 2 − y.
+const QAM16_SECOND: [Piece; 1] = [Piece {
+    from: 0,
+    slope: -1,
+    offset: 2,
+}];
+
+// y, then 2(y − 1) from 2, 3(y − 2) from 4, and 4(y − 3) from 6.
+const QAM64_FIRST: [Piece; 4] = [
+    Piece {
+        from: 0,
+        slope: 1,
+        offset: 0,
+    },
+    Piece {
+        from: 2,
+        slope: 2,
+        offset: -2,
+    },
+    Piece {
+        from: 4,
+        slope: 3,
+        offset: -6,
+    },
+    Piece {
+        from: 6,
+        slope: 4,
+        offset: -12,
+    },
+];
+
+// 2(3 − y), then 4 − y from 2, and 2(5 − y) from 6.
+const QAM64_SECOND: [Piece; 3] = [
+    Piece {
+        from: 0,
+        slope: -2,
+        offset: 6,
+    },
+    Piece {
+        from: 2,
+        slope: -1,
+        offset: 4,
+    },
+    Piece {
+        from: 6,
+        slope: -2,
+        offset: 10,
+    },
+];
+
+// y − 2, then 6 − y from 4.
+const QAM64_THIRD: [Piece; 2] = [
+    Piece {
+        from: 0,
+        slope: 1,
+        offset: -2,
+    },
+    Piece {
+        from: 4,
+        slope: -1,
+        offset: 6,
+    },
+];
 
 /// A bit of one axis of 16-QAM or of 64-QAM.
 #[derive(Clone, Copy)]
@@ -18,68 +124,6 @@ pub enum Form {
     Qam64Third,
 }
 
-/// 16-QAM, bit 1 above zero: y to 2, then 2(y − 1).
-fn qam16_first(y: i32) -> i32
-    requires { Reading y }
-    ensures { unsigned_abs result ≤ 16383 }
-{
-    if y <= 2 * UNIT { y } else { 2 * (y - UNIT) }
-}
-
-/// 16-QAM, bit 2 above zero: 2 − y.
-fn qam16_second(y: i32) -> i32
-    requires { Reading y }
-{
-    2 * UNIT - y
-}
-
-/// 64-QAM, bit 1 above zero: y to 2, 2(y − 1) to 4, 3(y − 2) to 6, then 4(y − 3).
-fn qam64_first(y: i32) -> i32
-    requires { Reading y }
-    ensures { unsigned_abs result ≤ 16383 }
-{
-    if y <= 2 * UNIT {
-        y
-    } else if y <= 4 * UNIT {
-        2 * (y - UNIT)
-    } else if y <= 6 * UNIT {
-        3 * (y - 2 * UNIT)
-    } else {
-        4 * (y - 3 * UNIT)
-    }
-}
-
-/// 64-QAM, bit 2 above zero: 2(3 − y) to 2, 4 − y to 6, then 2(5 − y).
-fn qam64_second(y: i32) -> i32
-    requires { Reading y }
-{
-    if y <= 2 * UNIT {
-        2 * (3 * UNIT - y)
-    } else if y <= 6 * UNIT {
-        4 * UNIT - y
-    } else {
-        2 * (5 * UNIT - y)
-    }
-}
-
-/// 64-QAM, bit 3 above zero: y − 2 to 4, then 6 − y.
-fn qam64_third(y: i32) -> i32
-    requires { Reading y }
-{
-    if y <= 4 * UNIT {
-        y - 2 * UNIT
-    } else {
-        6 * UNIT - y
-    }
-}
-
-/// With the sign of a reading: the first bits are mirrored about zero.
-fn mirrored(reading: i32, size: i32) -> i32
-    requires { unsigned_abs size ≤ 16383 }
-{
-    if reading < 0 { -size } else { size }
-}
-
 impl Form {
     pub const ALL: [Form; 5] = [
         Form::Qam16First,
@@ -89,18 +133,16 @@ impl Form {
         Form::Qam64Third,
     ];
 
-    /// How many bits its axis has.
-    pub fn axis(&self) -> u8
-        ensures { Axis result }
-    {
+    /// Its axis.
+    pub fn axis(self) -> Axis {
         match self {
-            Form::Qam16First | Form::Qam16Second => 2,
-            _ => 3,
+            Form::Qam16First | Form::Qam16Second => Axis { bits: 2 },
+            Form::Qam64First | Form::Qam64Second | Form::Qam64Third => Axis { bits: 3 },
         }
     }
 
-    /// Which of them it is, counted from 0.
-    pub fn place(&self) -> usize
+    /// Which bit of the axis it is, counted from 0.
+    pub fn place(self) -> usize
         ensures { result < 4 }
     {
         match self {
@@ -110,29 +152,34 @@ impl Form {
         }
     }
 
-    /// The soft bit that the form gives a reading.
-    pub fn at(&self, reading: i32) -> i32
-        requires { Reading reading }
-    {
-        let y = reading.abs();
+    /// Its pieces above zero, the one from 0 first.
+    fn pieces(self) -> &'static [Piece] {
         match self {
-            Form::Qam16First => mirrored(reading, qam16_first(y)),
-            Form::Qam16Second => qam16_second(y),
-            Form::Qam64First => mirrored(reading, qam64_first(y)),
-            Form::Qam64Second => qam64_second(y),
-            Form::Qam64Third => qam64_third(y),
+            Form::Qam16First => &QAM16_FIRST,
+            Form::Qam16Second => &QAM16_SECOND,
+            Form::Qam64First => &QAM64_FIRST,
+            Form::Qam64Second => &QAM64_SECOND,
+            Form::Qam64Third => &QAM64_THIRD,
+        }
+    }
+
+    /// The soft bit that the form gives a reading: the first bits are mirrored about zero.
+    pub fn at(self, reading: Reading) -> i32 {
+        let size = reading.steps.unsigned_abs();
+        let piece = self.pieces().iter().rfind(|piece| piece.begins_by(size));
+        let soft = piece.map_or(0, |piece| piece.at(size));
+        if self.place() == 0 && reading.steps < 0 {
+            -soft
+        } else {
+            soft
         }
     }
 }
 
 impl fmt::Display for Form {
     fn fmt<W: fmt::Write>(&self, f: &mut fmt::Formatter<W>) -> fmt::Result {
-        match self {
-            Form::Qam16First => f.write_str("16-QAM bit 1"),
-            Form::Qam16Second => f.write_str("16-QAM bit 2"),
-            Form::Qam64First => f.write_str("64-QAM bit 1"),
-            Form::Qam64Second => f.write_str("64-QAM bit 2"),
-            Form::Qam64Third => f.write_str("64-QAM bit 3"),
-        }
+        let points = 1 << (2 * self.axis().bits);
+        let bit = self.place() + 1;
+        write!(f, "{points}-QAM bit {bit}")
     }
 }

@@ -21,14 +21,9 @@ or for the readings FROM to TO, each STEP apart; -2047 to 2047, 64 to a level.
 /// The lines of each bit of each reading that is asked for.
 fn table(rt: &impl Print, span: Span) -> io::Result<()> {
     rt.println("# reading\tbit\texact\tshort\thard\tshort gap\thard gap")?;
-    for n in 0..4095u16 {
-        let reading = i32::from(n) - 2047;
-        if span.has(reading) {
-            for place in 0..span.bits {
-                if let Some(row) = Row::at(span.bits, place, reading) {
-                    rt.println(row)?;
-                }
-            }
+    for reading in (-2047..=2047).filter(|&reading| span.has(reading)) {
+        for row in (0..span.bits).filter_map(|place| Row::at(span.bits, place, reading)) {
+            rt.println(row)?;
         }
     }
     Ok(())

@@ -1,9 +1,9 @@
 // What the arguments of a call ask for.
-ghost use Rattle.std.specs.Prelude.{◌<◌, ◌≤◌, IfOk, unsigned_abs};
-ghost use Rattle.qam.specs.Levels.{Axis};
-
 use crate::span::Span;
-use std::fmt;
+use qam::{Axis, Reading};
+use std::num::NonZeroU32;
+use std::str::FromStr;
+use thiserror::Error;
 
 /// What a call asks for.
 #[derive(Clone, Copy, PartialEq, Eq, Debug)]
@@ -14,79 +14,54 @@ pub enum Request {
 }
 
 /// Why a call is refused.
-#[derive(Clone, Copy, PartialEq, Eq, Debug)]
+#[derive(Clone, Copy, PartialEq, Eq, Debug, Error)]
 pub enum Fault {
+    #[error("give M FROM [TO [STEP]], or --help")]
     Words,
+    #[error("M, the bits of an axis, is 1, 2, 3 or 4")]
     Bits,
+    #[error("a reading is a whole number from -2047 to 2047")]
     Reading,
+    #[error("TO is below FROM")]
     Order,
+    #[error("STEP is a whole number above 0")]
     Step,
 }
 
-impl fmt::Display for Fault {
-    fn fmt<W: fmt::Write>(&self, f: &mut fmt::Formatter<W>) -> fmt::Result {
-        match self {
-            Fault::Words => f.write_str("give M FROM [TO [STEP]], or --help"),
-            Fault::Bits => f.write_str("M, the bits of an axis, is 1, 2, 3 or 4"),
-            Fault::Reading => f.write_str("a reading is a whole number from -2047 to 2047"),
-            Fault::Order => f.write_str("TO is below FROM"),
-            Fault::Step => f.write_str("STEP is a whole number above 0"),
-        }
-    }
-}
-
-/// The bits of an axis.
-fn bits(word: &str) -> Result<u8, Fault>
-    ensures { IfOk result (λ m. Axis m) }
+/// The value of a word: the word is a number, and the number is in the value's range.
+fn value<N, T>(word: &str, fault: Fault) -> Result<T, Fault>
+where
+    N: FromStr,
+    T: TryFrom<N>,
+    N::Err: Drop,
+    T::Error: Drop,
 {
-    match word.parse::<u8>() {
-        Ok(m) if 1 <= m && m <= 4 => Ok(m),
-        _ => Err(Fault::Bits),
-    }
-}
-
-/// A reading, in steps.
-fn reading(word: &str) -> Result<i32, Fault>
-    ensures { IfOk result (λ x. unsigned_abs x ≤ 2047) }
-{
-    match word.parse::<i32>() {
-        Ok(x) if -2047 <= x && x <= 2047 => Ok(x),
-        _ => Err(Fault::Reading),
-    }
-}
-
-/// How far apart the readings are.
-fn step(word: &str) -> Result<u32, Fault>
-    ensures { IfOk result (λ n. 0 < n) }
-{
-    match word.parse::<u32>() {
-        Ok(n) if 0 < n => Ok(n),
-        _ => Err(Fault::Step),
-    }
+    let number = word.parse::<N>().map_err(|_| fault)?;
+    T::try_from(number).map_err(|_| fault)
 }
 
 /// The span of two to four words.
 fn asked(words: &[String]) -> Result<Span, Fault> {
-    if words.len() < 2 || 4 < words.len() {
-        return Err(Fault::Words);
-    }
-    let bits = bits(words[0].as_str())?;
-    let from = reading(words[1].as_str())?;
-    let mut to = from;
-    if 2 < words.len() {
-        to = reading(words[2].as_str())?;
-    }
-    let mut apart = 1;
-    if 3 < words.len() {
-        apart = step(words[3].as_str())?;
-    }
+    let (bits, from, to, apart) = match words {
+        [bits, from] => (bits, from, from, None),
+        [bits, from, to] => (bits, from, to, None),
+        [bits, from, to, apart] => (bits, from, to, Some(apart)),
+        _ => return Err(Fault::Words),
+    };
+    let axis = value::<u8, Axis>(bits.as_str(), Fault::Bits)?;
+    let from = value::<i16, Reading>(from.as_str(), Fault::Reading)?;
+    let to = value::<i16, Reading>(to.as_str(), Fault::Reading)?;
+    let apart = match apart {
+        Some(apart) => value::<u32, NonZeroU32>(apart.as_str(), Fault::Step)?.get(),
+        None => 1,
+    };
     if to < from {
         return Err(Fault::Order);
     }
     Ok(Span {
-        bits,
-        from,
-        to,
+        bits: axis.bits,
+        from: i32::from(from.steps),
+        to: i32::from(to.steps),
         apart,
     })
 }
@@ -94,13 +69,11 @@ fn asked(words: &[String]) -> Result<Span, Fault> {
 impl Request {
     /// The request of a call's words.
     pub fn of(words: &[String]) -> Result<Request, Fault> {
-        if words.is_empty() {
-            return Err(Fault::Words);
-        }
-        match words[0].as_str() {
-            "--help" => Ok(Request::Help),
-            "--version" => Ok(Request::Version),
-            _ => Ok(Request::Table(asked(words)?)),
+        match words.first().map(|word| word.as_str()) {
+            None => Err(Fault::Words),
+            Some("--help") => Ok(Request::Help),
+            Some("--version") => Ok(Request::Version),
+            Some(_) => Ok(Request::Table(asked(words)?)),
         }
     }
 }

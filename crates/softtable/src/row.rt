@@ -1,10 +1,9 @@
 // A line of the table.
 ghost use Rattle.std.specs.Prelude.{◌≡◌, ◌<◌, ◌-ℤ◌, is_some, IfSome, unsigned_abs};
-ghost use Rattle.qam.specs.Levels.{Axis};
-ghost use Rattle.softbits.specs.SoftBits.{Reading};
 ghost use Rattle.softtable.specs.Lines.{Line, has_line};
 
 use demapping::{Demapper, Exact, Hard, Short};
+use qam::{Axis, Reading};
 use std::fmt;
 
 /// The three soft bits of one bit, counted from 1, of a reading.
@@ -18,29 +17,31 @@ pub struct Row {
 }
 
 /// The line of a place of an axis.
-fn line(m: u8, place: u8, r: i32) -> Row
-    requires axis { Axis m }
-    requires place { place < 4 }
-    requires reading { Reading r }
-    ensures { Line m place r result }
+fn line(axis: Axis, place: u8, reading: Reading) -> Row
+    requires { place < 4 }
+    ensures { Line axis.bits place reading.steps result }
 {
+    let at = usize::from(place);
     Row {
-        reading: r,
+        reading: i32::from(reading.steps),
         bit: place + 1,
-        exact: Exact.soft(m, r)[place as usize],
-        short: Short.soft(m, r)[place as usize],
-        hard: Hard.soft(m, r)[place as usize],
+        exact: Exact.soft(axis, reading)[at],
+        short: Short.soft(axis, reading)[at],
+        hard: Hard.soft(axis, reading)[at],
     }
 }
 
 impl Row {
     /// The line of a place, counted from 0, of an axis with m bits; none where there is no such place or reading.
+    // It takes plain numbers, since it is the test of whether they have a line.
     pub fn at(m: u8, place: u8, r: i32) -> Option<Row>
         ensures some { is_some result ≡ has_line m place r }
         ensures line { IfSome result (Line m place r) }
     {
-        if 1 <= m && m <= 4 && place < m && r.unsigned_abs() <= 2047 {
-            Some(line(m, place, r))
+        let axis = Axis::try_from(m).ok()?;
+        let reading = Reading::try_from(i16::try_from(r).ok()?).ok()?;
+        if place < axis.bits {
+            Some(line(axis, place, reading))
         } else {
             None
         }

@@ -3,6 +3,7 @@ ghost use Rattle.softtable.specs.Spans.{spans};
 ghost use Rattle.std.specs.Prelude.{◌≡◌};
 
 /// The readings from one to another, so many steps apart, on an axis with so many bits.
+// Plain numbers: narrower types would ask more of whoever makes one.
 #[derive(Clone, Copy, PartialEq, Eq, Debug)]
 pub struct Span {
     pub bits: u8,
