@@ -5,7 +5,7 @@ mod answer;
 mod options;
 
 use answer::answer;
-use options::{Asked, read_command};
+use options::{Asked, OrderKind, read_command};
 use orders::{CountFirst, Sum};
 use std::process::ExitCode;
 
@@ -21,23 +21,15 @@ fn run(rt: &HostRuntime) -> anyhow::Result<()> {
     match read_command(rt)? {
         Asked::Help => println!(rt; "{HELP}")?,
         Asked::Version => println!(rt; "nearest 1")?,
-        Asked::Search(options) => {
-            if options.by_count {
-                answer(
-                    rt,
-                    &options,
-                    &CountFirst,
-                    &mut [(0, 0); 64],
-                    &mut [(0, 0); 64],
-                )?
-            } else {
-                answer(rt, &options, &Sum, &mut [0; 64], &mut [0; 64])?
-            }
-        }
+        Asked::Search(options) => match options.order {
+            OrderKind::Sum => answer(rt, &options, &Sum)?,
+            OrderKind::CountFirst => answer(rt, &options, &CountFirst)?,
+        },
     }
     Ok(())
 }
 
+// The program `send` has its main alike: eight lines of two programs are no crate.
 fn main(rt: HostRuntime) -> ExitCode {
     match run(&rt) {
         Ok(()) => ExitCode::SUCCESS,

@@ -4,7 +4,7 @@
 mod options;
 mod output;
 
-use options::{Options, Task};
+use options::Task;
 use output::print_cells;
 use std::process::ExitCode;
 
@@ -17,6 +17,7 @@ fn run(rt: &HostRuntime) -> anyhow::Result<()> {
     Ok(())
 }
 
+// The program `nearest` has its main alike: eight lines of two programs are no crate.
 fn main(rt: HostRuntime) -> ExitCode {
     match run(&rt) {
         Ok(()) => ExitCode::SUCCESS,

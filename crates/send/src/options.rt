@@ -2,9 +2,9 @@
 use anyhow::{Context, anyhow};
 use coding::{CodeKind, End, Rate};
 use interleaving::InterleaverKind;
-use sending::Plan;
-use std::alloc::AllocError;
+use refusals::UnknownName;
 use std::env;
+use std::str::FromStr;
 
 pub const HELP: &str = "\
 send: turn a message into the QAM cells of its frame
@@ -59,67 +59,59 @@ enum Flag {
     Interleaver,
 }
 
-fn flag_named(text: &str) -> Option<Flag> {
-    match text {
-        "-m" | "--bits" => Some(Flag::Bits),
-        "-b" | "--block" => Some(Flag::Block),
-        "-r" | "--rate" => Some(Flag::Rate),
-        "-c" | "--code" => Some(Flag::Code),
-        "-e" | "--end" => Some(Flag::End),
-        "-i" | "--interleaver" => Some(Flag::Interleaver),
-        _ => None,
+impl FromStr for Flag {
+    type Err = UnknownName;
+
+    fn from_str(text: &str) -> Result<Flag, UnknownName> {
+        match text {
+            "-m" | "--bits" => Ok(Flag::Bits),
+            "-b" | "--block" => Ok(Flag::Block),
+            "-r" | "--rate" => Ok(Flag::Rate),
+            "-c" | "--code" => Ok(Flag::Code),
+            "-e" | "--end" => Ok(Flag::End),
+            "-i" | "--interleaver" => Ok(Flag::Interleaver),
+            _ => Err(UnknownName),
+        }
     }
 }
 
-fn rate_named(text: &str) -> Option<Rate> {
-    match text {
-        "1/2" => Some(Rate::Half),
-        "2/3" => Some(Rate::TwoThirds),
-        "3/4" => Some(Rate::ThreeQuarters),
-        _ => None,
+/// Adds the digits of a text to a message, a byte a bit.
+fn add_digits(message: &mut Vec<u8>, text: &str) -> anyhow::Result<()> {
+    for byte in text.bytes() {
+        match byte {
+            b'0'..=b'9' => message.push(byte - b'0')?,
+            b' ' | b'\t' | b'\r' | b'\n' => {}
+            _ => return Err(anyhow!("the message has a character that is no digit")),
+        }
     }
+    Ok(())
 }
 
-/// The one letter of a text, or 0.
-fn letter(text: &str) -> u8 {
-    match text.as_bytes() {
-        [only] => *only,
-        _ => 0,
+/// The message that stands on standard input.
+fn read_message(rt: &HostRuntime) -> anyhow::Result<Vec<u8>> {
+    let mut message = Vec::new(rt.alloc());
+    for line in rt.lines(rt.alloc()) {
+        add_digits(&mut message, line?.as_str())?;
     }
+    Ok(message)
 }
 
 impl Options {
     fn set(&mut self, flag: Flag, value: &str) -> anyhow::Result<()> {
         match flag {
             Flag::Bits => self.bits = value
-                .parse::<u8>()
-                .ok()
+                .parse()
                 .context("--bits wants a number from 0 to 255")?,
-            Flag::Block => self.block = value
-                .parse::<u8>()
-                .ok()
-                .context("--block wants a number from 0 to 255")?,
-            Flag::Rate => self.rate = rate_named(value).context("--rate wants 1/2, 2/3 or 3/4")?,
-            Flag::Code => self.code = CodeKind::from_letter(letter(value)).context(
-                "--code wants L or R",
-            )?,
-            Flag::End => self.end = End::from_letter(letter(value)).context("--end wants C or O")?,
-            Flag::Interleaver => {
-                self.interleaver = InterleaverKind::from_letter(letter(value)).context(
-                    "--interleaver wants S or T",
-                )?;
+            Flag::Block => {
+                self.block = value
+                    .parse()
+                    .context("--block wants a number from 0 to 255")?;
             }
-        }
-        Ok(())
-    }
-
-    /// Adds the digits of a text to the message.
-    fn add_digits(&mut self, text: &str) -> anyhow::Result<()> {
-        for byte in text.bytes() {
-            match byte {
-                b'0'..=b'9' => self.message.push(byte - b'0')?,
-                b' ' | b'\t' | b'\r' | b'\n' => {}
-                _ => return Err(anyhow!("the message has a character that is no digit")),
+            Flag::Rate => self.rate = value.parse().context("--rate wants 1/2, 2/3 or 3/4")?,
+            Flag::Code => self.code = value.parse().context("--code wants L or R")?,
+            Flag::End => self.end = value.parse().context("--end wants C or O")?,
+            Flag::Interleaver => {
+                self.interleaver = value.parse().context("--interleaver wants S or T")?;
             }
         }
         Ok(())
@@ -137,35 +129,34 @@ pub fn read(rt: &HostRuntime) -> anyhow::Result<Task> {
         interleaver: InterleaverKind::Straight,
         message: Vec::new(rt.alloc()),
     };
-    let mut flag = None;
-    let mut given = false;
+    let mut wanting = None;
+    let mut message = None;
     for word in env::args(rt)?.skip(1) {
         let text = word.as_str();
-        match flag {
-            Some(wanting) => {
-                options.set(wanting, text)?;
-                flag = None;
+        match wanting {
+            Some(flag) => {
+                options.set(flag, text)?;
+                wanting = None;
             }
             None => match text {
                 "-h" | "--help" => return Ok(Task::Help),
                 "--version" => return Ok(Task::Version),
-                _ => {
-                    flag = flag_named(text);
-                    if flag.is_none() {
-                        options.add_digits(text)?;
-                        given = true;
+                _ => match text.parse::<Flag>() {
+                    Ok(flag) => wanting = Some(flag),
+                    Err(UnknownName) => {
+                        let given = message.get_or_insert(Vec::new(rt.alloc()));
+                        add_digits(given, text)?;
                     }
-                }
+                },
             },
         }
     }
-    if flag.is_some() {
+    if wanting.is_some() {
         return Err(anyhow!("the last option has no value"));
     }
-    if !given {
-        for line in rt.lines(rt.alloc()) {
-            options.add_digits(line?.as_str())?;
-        }
-    }
+    options.message = match message {
+        Some(given) => given,
+        None => read_message(rt)?,
+    };
     Ok(Task::Send(options))
 }
