@@ -2,6 +2,7 @@
 use super::frames::{Frame, bits_of, cells_of};
 use coding::{CodeKind, End, Rate};
 use interleaving::InterleaverKind;
+use qam::QamCell;
 
 // 24 bits with the tail of six zeros, which are the closing inputs.
 const SIGNAL: &[u8] = b"101100010011000000";
@@ -25,13 +26,10 @@ const DATA_LEVELS: [(i16, i16); 6] = [(-1, 1), (-1, 1), (1, 1), (-3, -3), (1, 3)
 
 /// How many of the expected digits the bits have in their places.
 fn agreeing(bits: &[u8], expected: &[u8]) -> usize {
-    let mut count = 0usize;
-    for (bit, digit) in bits.iter().zip(expected) {
-        if bit.wrapping_add(b'0') == *digit {
-            count = count.saturating_add(1);
-        }
-    }
-    count
+    bits.iter()
+        .zip(expected)
+        .filter(|(bit, digit)| bit.wrapping_add(b'0') == **digit)
+        .count()
 }
 
 fn compare(
@@ -49,18 +47,20 @@ fn compare(
     Ok(())
 }
 
+/// Whether a cell stands at a level, given in units.
+fn stands_at(cell: QamCell, level: (i16, i16)) -> bool {
+    let whole = cell.in_phase % 64 == 0 && cell.quadrature % 64 == 0;
+    whole && (cell.in_phase / 64, cell.quadrature / 64) == level
+}
+
 fn levels(rt: &HostRuntime, frame: Frame, message: &[u8]) -> anyhow::Result<()> {
     let cells = cells_of(rt.alloc(), frame, message)?;
-    let mut count = 0usize;
-    for (cell, level) in cells.as_slice().iter().zip(&DATA_LEVELS) {
-        if cell.in_phase / 64 == level.0
-            && cell.quadrature / 64 == level.1
-            && cell.in_phase % 64 == 0
-            && cell.quadrature % 64 == 0
-        {
-            count = count.saturating_add(1);
-        }
-    }
+    let count = cells
+        .as_slice()
+        .iter()
+        .zip(&DATA_LEVELS)
+        .filter(|(cell, level)| stands_at(**cell, **level))
+        .count();
     println!(rt; "first cells of the first DATA symbol: {count} of 6 agree")?;
     Ok(())
 }
