@@ -1,5 +1,5 @@
 -- The exact soft bit from a table of the squares. Assumes nothing.
-use Rattle.std.proofs.Common.{◌≡◌, ℕ, ◌≤◌, Bool, true, false, cond, leb, List, ℤ, pos, refl, ap, ◌∙◌}
+use Rattle.std.proofs.Common.{◌≡◌, ℕ, ◌≤◌, Bool, true, false, cond, leb, List, [], ◌∷◌, length, get_or, ℤ, pos, refl, ap, ◌∙◌, arith}
 use lib.Signed.{quot_z}
 use Rattle.std.proofs.lemmas.Bool.{leb-true}
 use Rattle.softbits.specs.SoftBits.{apart, divisor, exact, lead_of}
@@ -17,3 +17,12 @@ unfolding exact_demapping
 exact_bit m k t z o v r s =
     v ∙ cond_same (leb k m) (quot_z (lead_of m k (at t)) (pos divisor)) (exact m k r) (pos 0)
     (λ l. ap (λ (x : ℤ). quot_z x (pos divisor)) (lead_same m k (at t) (apart m r) o (leb-true k m l) s.each))
+
+-- four numbers make the list of them
+pub four : (a b c d : ℤ) (ys : List ℤ) → length ys ≡ 4 → get_or ys 0 (pos 0) ≡ a → get_or ys 1 (pos 0) ≡ b → get_or ys 2 (pos 0) ≡ c → get_or ys 3 (pos 0) ≡ d → ys ≡ a ∷ b ∷ c ∷ d ∷ []
+four a b c d [] l e f g h = absurd (omega (arith, l))
+four a b c d (x ∷ []) l e f g h = absurd (omega (arith, l))
+four a b c d (x ∷ y ∷ []) l e f g h = absurd (omega (arith, l))
+four a b c d (x ∷ y ∷ z ∷ []) l e f g h = absurd (omega (arith, l))
+four a b c d (x ∷ y ∷ z ∷ w ∷ []) l e f g h = cc
+four a b c d (x ∷ y ∷ z ∷ w ∷ v ∷ vs) l e f g h = absurd (omega (arith, l))

@@ -3,6 +3,7 @@ use Rattle.std.proofs.Common.{◌≡◌, ℕ, ◌<◌, Bool, true, false, cond, 
 use Rattle.softbits.specs.SoftBits.{exact, hard_of}
 use Rattle.softbits.specs.Demapping.{answers}
 use Rattle.demapping.specs.Demappings.{exact_demapping, hard_demapping}
+use Rattle.demapping.proofs.Exacts.{four}
 
 hard_cond : (b : Bool) (x : ℤ) → hard_of (cond b x (pos 0)) ≡ cond b (hard_of x) (pos 0)
 hard_cond true x = refl
@@ -11,14 +12,6 @@ hard_cond false x = refl
 hard_answer : (m k : ℕ) (r : ℤ) → hard_of (exact_demapping.answer m k r) ≡ hard_demapping.answer m k r
 unfolding exact_demapping hard_demapping
 hard_answer m k r = hard_cond (leb k m) (exact m k r)
-
-four : (a b c d : ℤ) (ys : List ℤ) → length ys ≡ 4 → get_or ys 0 (pos 0) ≡ a → get_or ys 1 (pos 0) ≡ b → get_or ys 2 (pos 0) ≡ c → get_or ys 3 (pos 0) ≡ d → ys ≡ a ∷ b ∷ c ∷ d ∷ []
-four a b c d [] l e f g h = absurd (omega (arith, l))
-four a b c d (x ∷ []) l e f g h = absurd (omega (arith, l))
-four a b c d (x ∷ y ∷ []) l e f g h = absurd (omega (arith, l))
-four a b c d (x ∷ y ∷ z ∷ []) l e f g h = absurd (omega (arith, l))
-four a b c d (x ∷ y ∷ z ∷ w ∷ []) l e f g h = cc
-four a b c d (x ∷ y ∷ z ∷ w ∷ v ∷ vs) l e f g h = absurd (omega (arith, l))
 
 pub hard_answers : (m : ℕ) (r : ℤ) (xs ys : List ℤ) → xs ≡ answers exact_demapping m r → length ys ≡ 4 → ((i : ℕ) → i < 4 → get_or ys i (pos 0) ≡ hard_of (get_or xs i (pos 0))) → ys ≡ answers hard_demapping m r
 hard_answers m r xs ys e l h =

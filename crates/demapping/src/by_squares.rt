@@ -1,5 +1,5 @@
 // The exact demapper: the squared distance from each level is formed once, and each bit takes its least from the table.
-ghost use Rattle.std.specs.Prelude.{◌≡◌, ◌<◌, ◌≤◌, nat_eq};
+ghost use Rattle.std.specs.Prelude.{◌≡◌, ◌<◌, ◌≤◌, ℤ, nat_eq};
 ghost use Rattle.demapping.specs.Demappings.{exact_demapping};
 ghost use Rattle.demapping.specs.Steps.{Squares, at, exact_from};
 ghost use Rattle.qam.specs.Levels.{BitOf, label_bit};
@@ -18,31 +18,26 @@ fn square_at(axis: Axis, reading: Reading, number: usize) -> u32
     distance * distance
 }
 
-/// The squared distance of a reading at each level number below 16; those past the levels of the axis are not read.
+/// The squared distance of a reading at each level number below 16; those past the levels of the axis are not read. The reading itself
+/// is not kept: each bit is told by the distances alone, of whatever reading they are.
 // Which bit k and which value c of it stay two arguments of each method: they change from call to call.
 #[derive(Clone, Copy)]
 struct Distances {
     axis: Axis,
-    reading: Reading,
     // As many places as the largest axis has levels: a library allocates nothing.
     squared: [u32; 16],
-    ghost each: { Squares axis.bits reading.steps squared },
 }
 
 impl Distances {
     fn of(axis: Axis, reading: Reading) -> Distances
         ensures axis { result.axis ≡ axis }
-        ensures reading { result.reading ≡ reading }
+        ensures each { Squares axis.bits reading.steps result.squared }
     {
         let mut squared = [0; 16];
         for (number, square) in squared.iter_mut().enumerate() {
             *square = square_at(axis, reading, number);
         }
-        Distances {
-            axis,
-            reading,
-            squared,
-        }
+        Distances { axis, squared }
     }
 
     /// The number of a level whose label bit k is c.
@@ -93,11 +88,11 @@ impl Distances {
         ((zero - one) / 256) as i32
     }
 
-    /// The exact soft bit k of the reading, zero past the last bit.
+    /// The exact soft bit k, zero past the last bit, of whatever reading has these squared distances.
     // Two functions: the meaning of `exact_demapping` is shut, so the code is held to its open form in `exact_from`, and this one to it.
     fn exact_bit(&self, k: u8) -> i32
         requires { 1 ≤ k }
-        ensures { result ≡ exact_demapping.answer self.now.axis.bits k self.now.reading.steps }
+        ensures { (r : ℤ) → Squares self.now.axis.bits r self.now.squared → result ≡ exact_demapping.answer self.now.axis.bits k r }
     {
         self.exact_from(k)
     }

@@ -3,5 +3,5 @@ use Rattle.std.proofs.Common.{arith}
 use Rattle.qam.proofs.Axes.{levels_few}
 use Rattle.demapping.proofs.by_squares.Distances.of.Goals as goal
 
-pub invariant_of-result : goal.invariant_of-result
-invariant_of-result c = record { each = record { each = λ i h. c.loop-number.invariant i (omega (arith, levels_few c.args.axis.bits c.args.axis.is_axis.few)) } }
+pub returns-clause-each : goal.returns-clause-each
+returns-clause-each c = record { each = λ i h. c.loop-number.invariant i (omega (arith, levels_few c.args.axis.bits c.args.axis.is_axis.few)) }
