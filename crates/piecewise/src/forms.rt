@@ -1,5 +1,5 @@
 // The published piecewise forms of the exact soft bits, in level units there and in steps here.
-ghost use Rattle.std.specs.Prelude.{◌*◌, ◌^◌, ◌<◌, ◌≤◌, unsigned_abs};
+ghost use Rattle.std.specs.Prelude.{◌*◌, ◌<◌, ◌≤◌, unsigned_abs};
 
 use qam::{Axis, Reading};
 use std::fmt;
@@ -7,9 +7,11 @@ use std::fmt;
 /// One unit of level, in steps.
 const UNIT: i32 = 64;
 
-/// So many times a size.
+/// So many times the size of a reading.
 fn product(times: i8, size: u16) -> i32
-    ensures { unsigned_abs result ≤ 128 * 65535 }
+    requires times { unsigned_abs times ≤ 4 }
+    requires size { size ≤ 2047 }
+    ensures { unsigned_abs result ≤ 4 * 2047 }
 {
     i32::from(times) * i32::from(size)
 }
@@ -20,19 +22,21 @@ struct Piece {
     from: i8,
     slope: i8,
     offset: i8,
+    ghost slope_small: { unsigned_abs slope ≤ 4 },
+    ghost offset_small: { unsigned_abs offset ≤ 12 },
 }
 
 impl Piece {
-    /// Whether it has begun at a size in steps.
-    fn begins_by(self, size: u16) -> bool {
-        i32::from(self.from) * UNIT <= i32::from(size)
+    /// Whether it has begun at the size of a reading.
+    fn begins_by(self, reading: Reading) -> bool {
+        i32::from(self.from) * UNIT <= i32::from(reading.steps.unsigned_abs())
     }
 
-    /// What it gives a size in steps.
-    fn at(self, size: u16) -> i32
-        ensures { unsigned_abs result < 2 ^ 24 }
+    /// What it gives the size of a reading.
+    fn at(self, reading: Reading) -> i32
+        ensures { unsigned_abs result ≤ 16383 }
     {
-        product(self.slope, size) + i32::from(self.offset) * UNIT
+        product(self.slope, reading.steps.unsigned_abs()) + i32::from(self.offset) * UNIT
     }
 }
 
@@ -114,6 +118,16 @@ const QAM64_THIRD: [Piece; 2] = [
     },
 ];
 
+/// What the last piece that has begun gives the size of a reading, of pieces with the one from 0 first.
+fn by_pieces(pieces: &[Piece], reading: Reading) -> i32
+    ensures { unsigned_abs result ≤ 16383 }
+{
+    match pieces.iter().rfind(|piece| piece.begins_by(reading)) {
+        Some(piece) => piece.at(reading),
+        None => 0,
+    }
+}
+
 /// A bit of one axis of 16-QAM or of 64-QAM.
 #[derive(Clone, Copy)]
 pub enum Form {
@@ -152,22 +166,24 @@ impl Form {
         }
     }
 
-    /// Its pieces above zero, the one from 0 first.
-    fn pieces(self) -> &'static [Piece] {
+    /// What it gives the size of a reading.
+    fn above_zero(self, reading: Reading) -> i32
+        ensures { unsigned_abs result ≤ 16383 }
+    {
         match self {
-            Form::Qam16First => &QAM16_FIRST,
-            Form::Qam16Second => &QAM16_SECOND,
-            Form::Qam64First => &QAM64_FIRST,
-            Form::Qam64Second => &QAM64_SECOND,
-            Form::Qam64Third => &QAM64_THIRD,
+            Form::Qam16First => by_pieces(&QAM16_FIRST, reading),
+            Form::Qam16Second => by_pieces(&QAM16_SECOND, reading),
+            Form::Qam64First => by_pieces(&QAM64_FIRST, reading),
+            Form::Qam64Second => by_pieces(&QAM64_SECOND, reading),
+            Form::Qam64Third => by_pieces(&QAM64_THIRD, reading),
         }
     }
 
     /// The soft bit that the form gives a reading: the first bits are mirrored about zero.
-    pub fn at(self, reading: Reading) -> i32 {
-        let size = reading.steps.unsigned_abs();
-        let piece = self.pieces().iter().rfind(|piece| piece.begins_by(size));
-        let soft = piece.map_or(0, |piece| piece.at(size));
+    pub fn at(self, reading: Reading) -> i32
+        ensures { unsigned_abs result ≤ 16383 }
+    {
+        let soft = self.above_zero(reading);
         if self.place() == 0 && reading.steps < 0 {
             -soft
         } else {

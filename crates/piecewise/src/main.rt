@@ -1,6 +1,8 @@
 // Compares the exact demapper with the published piecewise forms of 16-QAM and 64-QAM at every reading.
 #![tactic(auto)]
 
+ghost use Rattle.std.specs.Prelude.{◌≤◌};
+
 mod forms;
 
 use demapping::{Demapper, Exact};
@@ -9,7 +11,9 @@ use qam::Reading;
 use std::io;
 
 /// At how many of the 4,095 readings the exact demapper answers what the form says.
-fn agreed(form: Form) -> usize {
+fn agreed(form: Form) -> usize
+    ensures { result ≤ 4095 }
+{
     (-2047..=2047)
         .filter_map(|steps: i16| Reading::try_from(steps).ok())
         .filter(|&reading| Exact.soft(form.axis(), reading)[form.place()] == form.at(reading))

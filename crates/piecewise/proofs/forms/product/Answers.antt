@@ -1,4 +1,4 @@
--- `forms::product` meets its contract: a number of 8 bits times one of 16.
+-- `forms::product` meets its contract: a number of at most 4 times one of at most 2,047.
 use Rattle.std.proofs.Common.{◌≡◌, ℕ, ◌*◌, ◌≤◌, ℤ, pos, ◌*ℤ◌, nat_abs, arith, w32, SFits, rules}
 use Rattle.std.proofs.Math.Nat.{mul-le-mul}
 use Rattle.std.proofs.lemmas.Int.{ints, to_z-of_z, unsigned_abs-mul}
@@ -9,7 +9,7 @@ product_few a b m n h l = rw unsigned_abs-mul (mul-le-mul h l)
 
 pub returns : goal.returns
 returns c =
-    let few : nat_abs (c.args.times *ℤ pos c.args.size) ≤ 128 * 65535 = product_few c.args.times (pos c.args.size) 128 65535 (omega (arith, ints, c.ranges.times)) (omega (arith, ints, c.ranges.size)) in
+    let few : nat_abs (c.args.times *ℤ pos c.args.size) ≤ 4 * 2047 = product_few c.args.times (pos c.args.size) 4 2047 c.requires.times (omega (arith, ints, c.requires.size)) in
     let times : c.from.result ≡ c.args.times = search rules in
     let size : c.from-2.result ≡ pos c.args.size = search rules in
     let first : SFits w32 c.args.times = omega (arith, ints, c.ranges.times) in
