@@ -3,7 +3,7 @@ ghost use Rattle.coding.specs.Letters.{rate_numbered};
 ghost use Rattle.coding.specs.Names.{rate_name};
 ghost use Rattle.coding.specs.Puncturing.{sends_first, sends_second, sent_before};
 ghost use Rattle.refusals.specs.Names.{ReadsName, named};
-ghost use Rattle.std.specs.Prelude.{◌≡◌, ◌%◌, ◌<◌, Some, false, length, slice_index_or};
+ghost use Rattle.std.specs.Prelude.{◌≡◌, Some};
 
 use refusals::UnknownName;
 use std::fmt;
@@ -82,15 +82,7 @@ impl fmt::Display for Rate {
     }
 }
 
-/// A row of the table at a step: it repeats after its last.
-fn row_at(row: &[bool], step: usize) -> bool
-    requires { 0 < length row.now }
-    ensures { result ≡ slice_index_or row.now (step % length row.now) false }
-{
-    row[step % row.len()]
-}
-
-/// Whether the first, and the second, code bit of a step is sent.
+/// Whether the first, and the second, code bit of a step is sent. The rows of a rate are equally long, so one division finds the place.
 // Two flags: the pattern says of each code bit by itself whether it is sent, and the callers make positions or bits of them.
 #[tactic(auto, unfolding(crate::specs::Puncturing::sends_first, crate::specs::Puncturing::sends_second))]
 pub fn sent_code_bits(rate: Rate, step: usize) -> (bool, bool)
@@ -98,7 +90,8 @@ pub fn sent_code_bits(rate: Rate, step: usize) -> (bool, bool)
     ensures second { result.1 ≡ sends_second rate step }
 {
     let pattern = &PATTERNS[rate as usize];
-    (row_at(pattern.first, step), row_at(pattern.second, step))
+    let place = step % pattern.first.len();
+    (pattern.first[place], pattern.second[place])
 }
 
 /// How many bits so many steps send, without counting step by step.
