@@ -29,9 +29,13 @@ impl BitCost {
         requires { place < 2 }
         ensures { result.by_pair ≡ pays_at place (limited soft) }
     {
-        BitCost {
-            by_pair: [0, 1, 2, 3].map(|pair: u8| penalty_at(soft, (pair >> place) & 1)),
-        }
+        let zero = penalty_at(soft, 0);
+        let one = penalty_at(soft, 1);
+        let by_pair = match place {
+            0 => [zero, one, zero, one],
+            _ => [zero, zero, one, one],
+        };
+        BitCost { by_pair }
     }
 
     /// The same at a position, if the code bit is sent.

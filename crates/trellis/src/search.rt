@@ -13,7 +13,7 @@ ghost use Rattle.trellis.specs.Steps.{RowEnd, Tabled, branch_by, costs_at};
 use super::cost::Cost;
 use super::step::advance;
 use super::stores::Stores;
-use super::table::Table;
+use super::table::{NO_FORKS, Table};
 use super::totals::Totals;
 use super::words::is_marked;
 use coding::{Code, Coding, Ending, Rate};
@@ -148,16 +148,16 @@ fn best_end<O: Order>(
 /// What every step of a search reads, but for the rate. The rate is an argument of the steps: where a caller fixes it, the compiler then
 /// knows it in the steps, and a bit takes 1.0 of the time of plain C; where it does not know it, 1.2.
 #[derive(Drop)]
-struct Search<'a, C: Code, O: Order> {
+struct Search<'a, 't, C: Code, O: Order> {
     code: C,
     order: &'a O,
     soft: &'a [i32],
-    table: Table,
+    table: Table<'t>,
     ghost states: { table.states ≡ (C.Code.trellis code).code.states },
-    ghost tabled: { Tabled (C.Code.trellis code).code (C.Code.trellis code).code.states table.forks },
+    ghost tabled: { Tabled (C.Code.trellis code).code (C.Code.trellis code).code.states table.forks.now },
 }
 
-impl<C: Code, O: Order> Search<'_, C, O> {
+impl<C: Code, O: Order> Search<'_, '_, C, O> {
     /// One step of the search: writes the row after it and its decision word, and answers the states reached.
     fn stride(
         &self,
@@ -276,11 +276,12 @@ pub(crate) fn find<C: Code, E: Ending<C>, O: Order>(
     let bits = message.len();
     let closing = usize::from(coding.end.closing_steps(code));
     let steps = bits + closing;
+    let mut forks = NO_FORKS;
     let search = Search {
         code: *code,
         order,
         soft,
-        table: Table::new(code),
+        table: Table::new(code, &mut forks),
     };
     let reached = search.march(coding.rate, steps, decisions, totals, spare);
     let last = Totals {

@@ -93,7 +93,7 @@ fn keep<T: Copy>(row: &mut [T], state: usize, total: Option<T>)
 // By the states' numbers: they name the fork, the place in the row and the bit of each word.
 fn advance_some<O: Order>(
     order: &O,
-    table: &Table,
+    table: &Table<'_>,
     cost: &Cost,
     old: &Totals<'_, O::Total>,
     new: &mut [O::Total],
@@ -101,8 +101,8 @@ fn advance_some<O: Order>(
     requires old_size { table.now.states ≤ length old.now.row.now }
     requires new_size { table.now.states ≤ length new.old }
     requires bears { (s : ℕ) (t : O.Total) → s < table.now.states → held (O.Order.order order.now).metric old.now.row.now old.now.reached s ≡ Some t → Bears (O.Order.order order.now).metric (cost_width cost.now) t }
-    ensures row { Holding (O.Order.order order.now).metric (λ s. fork_total (O.Order.order order.now).metric cost.now (held (O.Order.order order.now).metric old.now.row.now old.now.reached) (slice_index_or table.now.forks s no_fork)) table.now.states new.new result.0 }
-    ensures word { Marks (λ s. fork_higher (O.Order.order order.now).metric cost.now (held (O.Order.order order.now).metric old.now.row.now old.now.reached) (slice_index_or table.now.forks s no_fork)) table.now.states result.1 }
+    ensures row { Holding (O.Order.order order.now).metric (λ s. fork_total (O.Order.order order.now).metric cost.now (held (O.Order.order order.now).metric old.now.row.now old.now.reached) (slice_index_or table.now.forks.now s no_fork)) table.now.states new.new result.0 }
+    ensures word { Marks (λ s. fork_higher (O.Order.order order.now).metric cost.now (held (O.Order.order order.now).metric old.now.row.now old.now.reached) (slice_index_or table.now.forks.now s no_fork)) table.now.states result.1 }
 {
     let mut mask = 0;
     let mut word = 0;
@@ -124,7 +124,7 @@ fn advance_some<O: Order>(
 /// states' numbers too, from the last one down.
 fn advance_all<O: Order>(
     order: &O,
-    table: &Table,
+    table: &Table<'_>,
     cost: &Cost,
     old: &Totals<'_, O::Total>,
     new: &mut [O::Total],
@@ -133,12 +133,14 @@ fn advance_all<O: Order>(
     requires old_size { table.now.states ≤ length old.now.row.now }
     requires new_size { table.now.states ≤ length new.old }
     requires bears { (s : ℕ) (t : O.Total) → s < table.now.states → held (O.Order.order order.now).metric old.now.row.now old.now.reached s ≡ Some t → Bears (O.Order.order order.now).metric (cost_width cost.now) t }
-    ensures row { Holding (O.Order.order order.now).metric (λ s. fork_total (O.Order.order order.now).metric cost.now (held (O.Order.order order.now).metric old.now.row.now old.now.reached) (slice_index_or table.now.forks s no_fork)) table.now.states new.new old.now.reached }
-    ensures word { Marks (λ s. fork_higher (O.Order.order order.now).metric cost.now (held (O.Order.order order.now).metric old.now.row.now old.now.reached) (slice_index_or table.now.forks s no_fork)) table.now.states result }
+    ensures row { Holding (O.Order.order order.now).metric (λ s. fork_total (O.Order.order order.now).metric cost.now (held (O.Order.order order.now).metric old.now.row.now old.now.reached) (slice_index_or table.now.forks.now s no_fork)) table.now.states new.new old.now.reached }
+    ensures word { Marks (λ s. fork_higher (O.Order.order order.now).metric cost.now (held (O.Order.order order.now).metric old.now.row.now old.now.reached) (slice_index_or table.now.forks.now s no_fork)) table.now.states result }
 {
+    // Named before the loop: read through the table in every turn, a bit takes 1.07 of the time of plain C.
+    let forks = table.forks;
     let mut word = 0;
     for state in (0..table.states).rev() {
-        let fork = table.forks[state];
+        let fork = forks[state];
         let lower = paid_both(
             order,
             old.row[usize::from(fork.lower.from)],
@@ -161,7 +163,7 @@ fn advance_all<O: Order>(
 /// One step: writes the row after it, and answers the states reached and the decisions.
 pub(crate) fn advance<O: Order>(
     order: &O,
-    table: &Table,
+    table: &Table<'_>,
     cost: &Cost,
     old: &Totals<'_, O::Total>,
     new: &mut [O::Total],
@@ -169,8 +171,8 @@ pub(crate) fn advance<O: Order>(
     requires old_size { table.now.states ≤ length old.now.row.now }
     requires new_size { table.now.states ≤ length new.old }
     requires bears { (s : ℕ) (t : O.Total) → s < table.now.states → held (O.Order.order order.now).metric old.now.row.now old.now.reached s ≡ Some t → Bears (O.Order.order order.now).metric (cost_width cost.now) t }
-    ensures row { Holding (O.Order.order order.now).metric (λ s. fork_total (O.Order.order order.now).metric cost.now (held (O.Order.order order.now).metric old.now.row.now old.now.reached) (slice_index_or table.now.forks s no_fork)) table.now.states new.new result.0 }
-    ensures word { Marks (λ s. fork_higher (O.Order.order order.now).metric cost.now (held (O.Order.order order.now).metric old.now.row.now old.now.reached) (slice_index_or table.now.forks s no_fork)) table.now.states result.1 }
+    ensures row { Holding (O.Order.order order.now).metric (λ s. fork_total (O.Order.order order.now).metric cost.now (held (O.Order.order order.now).metric old.now.row.now old.now.reached) (slice_index_or table.now.forks.now s no_fork)) table.now.states new.new result.0 }
+    ensures word { Marks (λ s. fork_higher (O.Order.order order.now).metric cost.now (held (O.Order.order order.now).metric old.now.row.now old.now.reached) (slice_index_or table.now.forks.now s no_fork)) table.now.states result.1 }
 {
     if old.reached == all_marked(table.states) {
         (old.reached, advance_all(order, table, cost, old, new))

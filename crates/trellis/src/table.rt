@@ -18,16 +18,24 @@ pub struct Fork {
     pub higher: Way,
 }
 
+/// Places for the branches into the most states that a code may have.
+pub(crate) const NO_FORKS: [Fork; 64] = [Fork {
+    lower: Way { from: 0, bits: 0 },
+    higher: Way { from: 0, bits: 0 },
+}; 64];
+
 /// The branches into every state, made once for a search.
 //
-// An array for the most states, and their number beside it: nothing is allocated here, and a code's number of states is a function of its
-// value, so that no array type can have it.
-#[derive(Drop)]
-pub struct Table {
-    pub forks: [Fork; 64],
+// Written into an array for the most states, and their number beside it: nothing is allocated here, and a code's number of states is a
+// function of its value, so that no array type can have it. The array is lent: one that moved with the table would be copied, by a
+// function from outside that the library for C has no need of.
+#[derive(Clone, Copy)]
+pub struct Table<'a> {
+    pub forks: &'a [Fork],
     pub states: usize,
     ghost few: { states ≤ 64 },
-    ghost inside: { ForksInside states forks },
+    ghost size: { states ≤ length forks.now },
+    ghost inside: { ForksInside states forks.now },
 }
 
 /// The branch out of a state by an input.
@@ -66,18 +74,13 @@ fn tabulate<C: Code>(code: &C, forks: &mut [Fork])
     }
 }
 
-impl Table {
+impl<'a> Table<'a> {
     /// The table of a code.
-    pub(crate) fn new<C: Code>(code: &C) -> Table
+    pub(crate) fn new<C: Code>(code: &C, forks: &'a mut [Fork; 64]) -> Table<'a>
         ensures states { result.states ≡ (C.Code.trellis code.now).code.states }
-        ensures tabled { Tabled (C.Code.trellis code.now).code (C.Code.trellis code.now).code.states result.forks }
+        ensures tabled { Tabled (C.Code.trellis code.now).code (C.Code.trellis code.now).code.states result.forks.now }
     {
-        let none = Way { from: 0, bits: 0 };
-        let mut forks = [Fork {
-            lower: none,
-            higher: none,
-        }; 64];
-        tabulate(code, &mut forks);
+        tabulate(code, forks);
         Table {
             forks,
             states: usize::from(code.states()),

@@ -12,7 +12,7 @@ use Rattle.trellis.proofs.step.advance_all.Goals.{then-second, else-second}
 pub paid_both-lower-requires : goal.paid_both-lower-requires
 paid_both-lower-requires g c =
     let row = c.args.old.now.row.now in
-    let w = (get_or c.args.table.now.forks (c.loop-state.state - 1) no_fork).lower in
+    let w = (get_or c.args.table.now.forks.now (c.loop-state.state - 1) no_fork).lower in
     let inside = (c.args.table.now.inside (c.loop-state.state - 1) (omega (arith, c.loop-state-test.true, c.loop-state.auto.state))).0 in
     let x = get_or row c.from.result c.index-old-from.result in
     record {
@@ -23,7 +23,7 @@ paid_both-lower-requires g c =
 pub paid_both-higher-requires : goal.paid_both-higher-requires
 paid_both-higher-requires g c =
     let row = c.args.old.now.row.now in
-    let w = (get_or c.args.table.now.forks (c.loop-state.state - 1) no_fork).higher in
+    let w = (get_or c.args.table.now.forks.now (c.loop-state.state - 1) no_fork).higher in
     let inside = (c.args.table.now.inside (c.loop-state.state - 1) (omega (arith, c.loop-state-test.true, c.loop-state.auto.state))).1 in
     let x = get_or row c.from-in-loop-state.result c.index-old-from-in-loop-state.result in
     record {
@@ -36,7 +36,7 @@ is_higher_taken-second-requires g c =
     let M = (g.O.Order.order c.args.order.now).metric in
     let s = c.loop-state.state - 1 in
     let q = c.args.cost.now in
-    let f = get_or c.args.table.now.forks s no_fork in
+    let f = get_or c.args.table.now.forks.now s no_fork in
     let inside = c.args.table.now.inside s (omega (arith, c.loop-state-test.true, c.loop-state.auto.state)) in
     let row = c.args.old.now.row.now in
     let x = get_or row c.from.result c.index-old-from.result in
@@ -54,7 +54,7 @@ pub loop-state-preserved : goal.loop-state-preserved
 loop-state-preserved g c =
     let M = (g.O.Order.order c.args.order.now).metric in
     let q = c.args.cost.now in
-    let table = c.args.table.now.forks in
+    let table = c.args.table.now.forks.now in
     let totals = held M c.args.old.now.row.now c.args.old.now.reached in
     let j = c.loop-state.state in
     let f = get_or table (j - 1) no_fork in
@@ -86,7 +86,7 @@ pub returns : goal.returns
 returns g c =
     let M = (g.O.Order.order c.args.order.now).metric in
     let q = c.args.cost.now in
-    let table = c.args.table.now.forks in
+    let table = c.args.table.now.forks.now in
     let totals = held M c.args.old.now.row.now c.args.old.now.reached in
     let gives = λ (i : ℕ). fork_total M q totals (get_or table i no_fork) in
     let tells = λ (i : ℕ). fork_higher M q totals (get_or table i no_fork) in

@@ -13,13 +13,13 @@ pub loop-state-init : goal.loop-state-init
 loop-state-init g c =
     let M = (g.O.Order.order c.args.order.now).metric in
     let totals = held M c.args.old.now.row.now c.args.old.now.reached in
-    (holding_none M (λ s. fork_total M c.args.cost.now totals (get_or c.args.table.now.forks s no_fork)) c.args.new.now, marks_none (λ s. fork_higher M c.args.cost.now totals (get_or c.args.table.now.forks s no_fork)))
+    (holding_none M (λ s. fork_total M c.args.cost.now totals (get_or c.args.table.now.forks.now s no_fork)) c.args.new.now, marks_none (λ s. fork_higher M c.args.cost.now totals (get_or c.args.table.now.forks.now s no_fork)))
 
 pub second_is_taken-second-requires : goal.second_is_taken-second-requires
 second_is_taken-second-requires g c =
     let M = (g.O.Order.order c.args.order.now).metric in
     let totals = held M c.args.old.now.row.now c.args.old.now.reached in
-    let f = get_or c.args.table.now.forks c.loop-state.state no_fork in
+    let f = get_or c.args.table.now.forks.now c.loop-state.state no_fork in
     let inside = c.args.table.now.inside c.loop-state.state c.loop-state-test.true in
     record {
       first = carried_bears M c.args.cost.now f.lower inside.0.two_bits (totals f.lower.from) (λ t e. c.requires.bears f.lower.from t inside.0.from_state e) c.brought-lower.result c.brought-lower.ensures;
@@ -32,12 +32,12 @@ loop-state-preserved g c =
     let q = c.args.cost.now in
     let totals = held M c.args.old.now.row.now c.args.old.now.reached in
     let s = c.loop-state.state in
-    let f = get_or c.args.table.now.forks s no_fork in
+    let f = get_or c.args.table.now.forks.now s no_fork in
     let a = c.brought-lower.result in
     let b = c.brought-higher.result in
     let o = c.if-second.total in
-    let gives = λ (i : ℕ). fork_total M q totals (get_or c.args.table.now.forks i no_fork) in
-    let tells = λ (i : ℕ). fork_higher M q totals (get_or c.args.table.now.forks i no_fork) in
+    let gives = λ (i : ℕ). fork_total M q totals (get_or c.args.table.now.forks.now i no_fork) in
+    let tells = λ (i : ℕ). fork_higher M q totals (get_or c.args.table.now.forks.now i no_fork) in
     let bit = higher_is M q totals f a b c.brought-lower.ensures c.brought-higher.ensures c.second_is_taken-second.result c.second_is_taken-second.ensures in
     let pick : o ≡ cond c.second_is_taken-second.result b a =
     elim c.if-second.branch [
@@ -57,8 +57,8 @@ returns g c =
     let M = (g.O.Order.order c.args.order.now).metric in
     let q = c.args.cost.now in
     let totals = held M c.args.old.now.row.now c.args.old.now.reached in
-    let gives = λ (i : ℕ). fork_total M q totals (get_or c.args.table.now.forks i no_fork) in
-    let tells = λ (i : ℕ). fork_higher M q totals (get_or c.args.table.now.forks i no_fork) in
+    let gives = λ (i : ℕ). fork_total M q totals (get_or c.args.table.now.forks.now i no_fork) in
+    let tells = λ (i : ℕ). fork_higher M q totals (get_or c.args.table.now.forks.now i no_fork) in
     let all : c.loop-state.state ≡ c.args.table.now.states = omega (arith, c.loop-state-test.false, c.loop-state.auto.state-end) in
     record {
       row = subst (λ j. Holding M gives j c.loop-state.new c.loop-state.mask) all c.loop-state.invariant.0;

@@ -8,4 +8,4 @@ abbrev pub invariant-loop-state : goal.invariant-loop-state
 invariant-loop-state g l =
     let M = (g.O.Order.order l.order).metric in
     let totals = held M l.old.row.now l.old.reached in
-    Holding M (λ s. fork_total M l.cost totals (get_or l.table.forks s no_fork)) l.state l.new l.mask × Marks (λ s. fork_higher M l.cost totals (get_or l.table.forks s no_fork)) l.state l.word
+    Holding M (λ s. fork_total M l.cost totals (get_or l.table.forks.now s no_fork)) l.state l.new l.mask × Marks (λ s. fork_higher M l.cost totals (get_or l.table.forks.now s no_fork)) l.state l.word
