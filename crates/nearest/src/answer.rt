@@ -42,16 +42,21 @@ fn list<O: Readable>(
 }
 
 /// Searches, and prints what is asked for.
-pub fn answer<O: Readable>(rt: &HostRuntime, options: &Options, order: &O) -> anyhow::Result<()> {
+// The two rows of totals are lent: the caller has them on its stack, where a want of memory can't refuse them.
+pub fn answer<O: Readable>(
+    rt: &HostRuntime,
+    options: &Options,
+    order: &O,
+    totals: &mut [O::Total],
+    spare: &mut [O::Total],
+) -> anyhow::Result<()> {
     let heap = rt.alloc();
     let mut decisions = vec![in heap; 0u64; 4096]?;
-    let mut totals = vec![in heap; order.zero(); 64]?;
-    let mut spare = vec![in heap; order.zero(); 64]?;
     let mut message = vec![in heap; 0u8; usize::from(options.bits)]?;
     let stores = Stores {
         decisions: &mut decisions,
-        totals: &mut totals,
-        spare: &mut spare,
+        totals,
+        spare,
     };
     let total = nearest_message(
         &options.coding,

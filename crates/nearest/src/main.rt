@@ -22,8 +22,14 @@ fn run(rt: &HostRuntime) -> anyhow::Result<()> {
         Asked::Help => println!(rt; "{HELP}")?,
         Asked::Version => println!(rt; "nearest 1")?,
         Asked::Search(options) => match options.order {
-            OrderKind::Sum => answer(rt, &options, &Sum)?,
-            OrderKind::CountFirst => answer(rt, &options, &CountFirst)?,
+            OrderKind::Sum => answer(rt, &options, &Sum, &mut [0; 64], &mut [0; 64])?,
+            OrderKind::CountFirst => answer(
+                rt,
+                &options,
+                &CountFirst,
+                &mut [(0, 0); 64],
+                &mut [(0, 0); 64],
+            )?,
         },
     }
     Ok(())
