@@ -136,7 +136,7 @@ fn advance_all<O: Order>(
     ensures row { Holding (O.Order.order order.now).metric (λ s. fork_total (O.Order.order order.now).metric cost.now (held (O.Order.order order.now).metric old.now.row.now old.now.reached) (slice_index_or table.now.forks.now s no_fork)) table.now.states new.new old.now.reached }
     ensures word { Marks (λ s. fork_higher (O.Order.order order.now).metric cost.now (held (O.Order.order order.now).metric old.now.row.now old.now.reached) (slice_index_or table.now.forks.now s no_fork)) table.now.states result }
 {
-    // Named before the loop: read through the table in every turn, a bit takes 1.07 of the time of plain C.
+    // Named before the loop: so a bit takes 0.98 of the time of plain C; read through the table in every turn, 1.07.
     let forks = table.forks;
     let mut word = 0;
     for state in (0..table.states).rev() {

@@ -27,8 +27,8 @@ pub(crate) const NO_FORKS: [Fork; 64] = [Fork {
 /// The branches into every state, made once for a search.
 //
 // Written into an array for the most states, and their number beside it: nothing is allocated here, and a code's number of states is a
-// function of its value, so that no array type can have it. The array is lent: one that moved with the table would be copied, by a
-// function from outside that the library for C has no need of.
+// function of its value, so that no array type can have it. The array is lent: one that moved with the table would be copied by `memcpy`,
+// which the library for C would then need from outside.
 #[derive(Clone, Copy)]
 pub struct Table<'a> {
     pub forks: &'a [Fork],
