@@ -1,5 +1,5 @@
 -- The hard soft bits are the signs of the exact ones, also past bit m. Assumes nothing.
-use Rattle.std.proofs.Common.{◌≡◌, ℕ, ◌<◌, Bool, true, false, cond, leb, List, [], ◌∷◌, length, get_or, ℤ, pos, refl, ap, ◌∙◌, arith}
+use Rattle.std.proofs.Common.{◌≡◌, ℕ, ◌<◌, Bool, true, false, cond, leb, List, length, get_or, ℤ, pos, refl, ap, ◌∙◌, arith}
 use Rattle.softbits.specs.SoftBits.{exact, hard_of}
 use Rattle.softbits.specs.Demapping.{answers}
 use Rattle.demapping.specs.Demappings.{exact_demapping, hard_demapping}
